@@ -1,0 +1,45 @@
+-- Records in a series, passed one by one. Assumes nothing.
+use mathlib.Core.Path.{_≡_, refl, sym, ap, _∙_}
+use mathlib.Core.Bool.{Bool, true, false, _&&_, and-true, and-assoc}
+use mathlib.Core.List.{List, [], _∷_}
+use Prim.Native.Nat.{ℕ, zero, suc, _+_, _-_, _*_, _≤_, _<_}
+use native.Mathlib.Omega.{arith}
+use native.Mathlib.Nat.{add-zero, add-assoc, mul-zero, mul-one, mul-add, sub-zero}
+use lib.ListN.{length, getD}
+use Rattle.records.specs.Records.{recordsFrom, everyFrom}
+
+module _ {A : Type 0} (readAt : ℕ → A) (len : ℕ) where
+  -- of records that are left, the first and the rest
+  pub next-record : (n i at : ℕ) → i < n → recordsFrom readAt len (n - i) at ≡ readAt at ∷ recordsFrom readAt len (n - (i + 1)) (at + len)
+  unfolding recordsFrom
+  next-record n i at h = let e : n - i ≡ suc (n - (i + 1)) = omega arith in rw e
+
+  pub no-record : (n i at : ℕ) → n ≤ i → recordsFrom readAt len (n - i) at ≡ []
+  unfolding recordsFrom
+  no-record n i at h = let e : n - i ≡ 0 = omega arith in rw e
+
+  pub records-length : (n at : ℕ) → length (recordsFrom readAt len n at) ≡ n
+  unfolding recordsFrom
+  records-length zero at = refl
+  records-length (suc n) at = ap suc (records-length n (at + len))
+
+-- A loop has passed the first i of n records, and what holds so far and the test of the others is the test of all.
+pub record Passed {A : Type 0} (good : ℕ → A → Bool) (readAt : ℕ → A) (len n from : ℕ) (so : Bool) (i : ℕ) : Type 0 where
+  pub within : i ≤ n
+  pub same : (so && everyFrom good i (recordsFrom readAt len (n - i) (from + len * i))) ≡ everyFrom good 0 (recordsFrom readAt len n from)
+
+module _ {A : Type 0} {good : ℕ → A → Bool} {readAt : ℕ → A} {len n from : ℕ} where
+  pub passed-none : Passed good readAt len n from true 0
+  passed-none = record { within = omega arith; same = rw (mul-zero, add-zero, sub-zero) }
+
+  pub passed-more : {so : Bool} {i : ℕ} (x : A) (r : Bool) → Passed good readAt len n from so i → i < n → x ≡ readAt (from + len * i) → r ≡ good i x
+      → Passed good readAt len n from (so && r) (i + 1)
+  unfolding everyFrom
+  passed-more {so} {i} x r p h ex er = record {
+    within = omega arith;
+    same = rw (er, ex, mul-add, mul-one, ← add-assoc) (and-assoc so _ _ ∙ ap (λ (xs : List A). so && everyFrom good i xs) (sym (next-record readAt len n i (from + len * i) h)) ∙ p .same);
+  }
+
+  pub passed-all : {so : Bool} {i : ℕ} → Passed good readAt len n from so i → n ≤ i → so ≡ everyFrom good 0 (recordsFrom readAt len n from)
+  unfolding everyFrom
+  passed-all {so} {i} p h = sym (and-true so) ∙ ap (λ (xs : List A). so && everyFrom good i xs) (sym (no-record readAt len n i (from + len * i) h)) ∙ p .same

@@ -1,0 +1,57 @@
+-- Row 10 of the refusal table: reads and targets of a name against the counts of its facts.
+use Prim.Native.Nat.{ℕ, _+_}
+use mathlib.Core.Bool.{Bool, true, false, cond, _&&_, _||_, not}
+use mathlib.Core.List.{List}
+use lib.Dec.{eqb, leb}
+use Rattle.records.specs.Limits.{noNumber}
+use Rattle.records.specs.Flags.{recorded, mutated, unresolved, compound}
+use Rattle.records.specs.Records.{everyFrom}
+use Rattle.records.specs.Tree.{Node, Tree, Trees, node, none, more}
+use Rattle.records.specs.File.{one}
+use Rattle.records.specs.Place.{root}
+use Rattle.records.specs.declared.layout.NameFacts.{NameFacts}
+
+-- the name of a target name (29), else 65535, which is no name
+unfoldable pub targetName : Node → ℕ
+targetName n = cond (eqb (n .kind) 29) (n .label) noNumber
+
+-- the same of the first of some trees
+unfoldable pub firstTarget : Trees → ℕ
+firstTarget none = noNumber
+firstTarget (more t ts) = targetName (root t)
+
+-- the name that a node reads: "kind 4 nodes and compound targets"
+unfoldable pub nameRead : Node → Trees → ℕ
+nameRead n kids =
+    cond (eqb (n .kind) 4) (n .label) (cond (eqb (n .kind) 20 && compound (n .flags)) (firstTarget kids) noNumber)
+
+-- how often a name is read in trees
+unfoldable mutual
+  pub readsIn : ℕ → Tree → ℕ
+  readsIn name (node n kids) = one (eqb (nameRead n kids) name) + readsOf name kids
+
+  pub readsOf : ℕ → Trees → ℕ
+  readsOf name none = 0
+  readsOf name (more t ts) = readsIn name t + readsOf name ts
+
+-- how often a name is a target in trees
+unfoldable mutual
+  pub targetsIn : ℕ → Tree → ℕ
+  targetsIn name (node n kids) = one (eqb (targetName n) name) + targetsOf name kids
+
+  pub targetsOf : ℕ → Trees → ℕ
+  targetsOf name none = 0
+  targetsOf name (more t ts) = targetsIn name t + targetsOf name ts
+
+-- A recorded name has no more reads and targets than its facts say; a resolved one without record is no target, unless
+-- bit 6 says that it is mutated.
+unfoldable pub goodCounts : NameFacts → ℕ → ℕ → Bool
+goodCounts n reads targets =
+    unresolved (n .flags)
+    || recorded (n .flags) && leb reads (n .reads) && leb targets (n .writes)
+    || not (recorded (n .flags)) && (eqb targets 0 || mutated (n .flags))
+
+-- 10: "a recorded name has more kind 4 nodes and compound targets than reads, or more targets than writes; a resolved
+-- one without record is a target with bit 6 clear"
+unfoldable pub badCounts : List NameFacts → Trees → Bool
+badCounts names row = not (everyFrom (λ name n. goodCounts n (readsOf name row) (targetsOf name row)) 0 names)

@@ -1,0 +1,78 @@
+-- Row 8 of the refusal table: trees that close, and children where their kinds may stand.
+use Prim.Native.Nat.{ℕ, _+_}
+use mathlib.Core.Bool.{Bool, true, false, cond, _&&_, _||_, not}
+use mathlib.Core.List.{List, [], _∷_}
+use lib.Dec.{eqb, ltb}
+use Rattle.records.specs.Flags.{optional, shorthand}
+use Rattle.records.specs.Node.{isLink}
+use Rattle.records.specs.Tree.{Node, Tree, Trees, node, none, more, count, rowOf, closed}
+use Rattle.records.specs.File.{one, initializers}
+use Rattle.records.specs.declared.layout.NodeRecord.{NodeRecord}
+use Rattle.records.specs.declared.layout.DeclaratorRecord.{DeclaratorRecord}
+use Rattle.records.specs.declared.layout.StatementRecord.{StatementRecord}
+
+-- a kind that stands wherever an expression does: not a spread (25), property (26), elision (27) or target (29, 30)
+unfoldable pub isExpression : ℕ → Bool
+isExpression kind = ltb kind 25 || eqb kind 28
+
+-- Whether a child of this kind may stand under a parent of a kind and flags, as its first child or a later one:
+-- 22 "holds 25, 26 alone"; 13 holds "kind 10, 11, 12 or 14"; 20's target is 10, 11, 12, 29, 30; a shorthand's child is a
+-- name; elisions stand in 21 alone, spreads in 21, 22 and arguments.
+unfoldable pub mayStand : ℕ → ℕ → Bool → ℕ → Bool
+mayStand parent flags first kind =
+    cond (eqb parent 22) (eqb kind 25 || eqb kind 26)
+    (cond (eqb parent 13) (isLink kind)
+    (cond (eqb parent 20 && first) (eqb kind 10 || eqb kind 11 || eqb kind 12 || eqb kind 29 || eqb kind 30)
+    (cond (eqb parent 26 && shorthand flags) (eqb kind 4)
+    (cond (eqb parent 21) (isExpression kind || eqb kind 25 || eqb kind 27)
+    (cond ((eqb parent 14 || eqb parent 15) && not first) (isExpression kind || eqb kind 25)
+    (isExpression kind))))))
+
+-- a tree of 10, 11, 12 and 14 along first children with an optional node among them, so that a 13 must stand above it
+unfoldable mutual
+  pub loose : Tree → Bool
+  loose (node n kids) = isLink (n .kind) && (optional (n .flags) || looseFirst kids)
+
+  pub looseFirst : Trees → Bool
+  looseFirst none = false
+  looseFirst (more t ts) = loose t
+
+abbrev pub root : Tree → Node
+root (node n kids) = n
+
+-- a parent over whose first child a chain goes on: a 13, or a link of one
+abbrev pub chains : ℕ → Bool
+chains kind = eqb kind 13 || isLink kind
+
+-- every child stands where it may, the first of these being the first child or not, and "an optional node reaches a 13
+-- above it by first children of 10, 11, 12 and 14 alone"
+unfoldable pub standUnder : Node → Bool → Trees → Bool
+standUnder p first none = true
+standUnder p first (more t ts) =
+    mayStand (p .kind) (p .flags) first (root t .kind)
+    && (not (loose t) || first && chains (p .kind))
+    && standUnder p false ts
+
+-- so it is at every node
+unfoldable mutual
+  pub placed : Tree → Bool
+  placed (node n kids) = standUnder n true kids && allPlaced kids
+
+  pub allPlaced : Trees → Bool
+  allPlaced none = true
+  allPlaced (more t ts) = placed t && allPlaced ts
+
+-- statement roots: expressions, with no optional node that reaches no 13
+unfoldable pub rootsStand : Trees → Bool
+rootsStand none = true
+rootsStand (more t ts) = isExpression (root t .kind) && not (loose t) && rootsStand ts
+
+-- how many trees the statements have
+unfoldable pub expressions : List StatementRecord → ℕ
+expressions [] = 0
+expressions (s ∷ ss) = one (eqb (s .kind) 5) + expressions ss
+
+-- 8: "trees don't close, or a child where its kind can't stand"
+unfoldable pub badTrees : List DeclaratorRecord → List StatementRecord → List NodeRecord → Bool
+badTrees ds ss ns =
+    not (closed ns && eqb (count (rowOf ns)) (initializers ds + expressions ss) && rootsStand (rowOf ns) && allPlaced (rowOf ns))

@@ -1,0 +1,67 @@
+// Rows 1 to 4 of the refusal table: letters, version, limits, length; and where each part of a file begins.
+ghost use mathlib.Core.Path.{_≡_};
+ghost use mathlib.Core.List.{[], _∷_};
+ghost use Rattle.records.specs.File.{namesStart, scopesStart, framesStart, nodesStart, declaratorsStart, statementsStart, fileLength};
+ghost use Rattle.records.specs.Header.{notAScript, otherVersion, outsideLimits, otherLength};
+use crate::layout::Header;
+use crate::limits::{
+    MAX_DECLARATORS, MAX_FRAMES, MAX_NAMES, MAX_NODES, MAX_SCOPES, MAX_STATEMENTS, MIN_SCOPES, MIN_STATEMENTS, NO_NUMBER,
+};
+use crate::number::{size, wide16};
+
+// Row 1.
+pub fn not_a_script(file: &[u8]) -> bool
+    ensures { λ r. ⌜ r ≡ notAScript (now (file .entry)) ⌝ }
+{
+    if file.len() < 24 {
+        return true;
+    }
+    !((file[0] == b'W') & (file[1] == b'S') & (file[2] == b'F'))
+}
+
+// Row 2.
+pub fn other_version(h: Header) -> bool
+    ensures { λ r. ⌜ r ≡ otherVersion h ⌝ }
+{
+    !(h.version == 1)
+}
+
+// Row 3.
+pub fn outside_limits(h: Header) -> bool
+    ensures { λ r. ⌜ r ≡ outsideLimits h ⌝ }
+{
+    let records = wide16(h.nodes) + 2 * wide16(h.declarators);
+    let counts_fit = (h.names <= MAX_NAMES)
+        & (MIN_SCOPES <= h.scopes)
+        & (h.scopes <= MAX_SCOPES)
+        & (h.frames <= MAX_FRAMES)
+        & (h.declarators <= MAX_DECLARATORS)
+        & (MIN_STATEMENTS <= h.statements)
+        & (h.statements <= MAX_STATEMENTS)
+        & (records <= MAX_NODES);
+    let options_known = h.options < 16;
+    let scopes_known = (h.current_scope < h.scopes) & ((h.this_scope < h.scopes) | (h.this_scope == NO_NUMBER));
+    !(counts_fit & options_known & scopes_known & (h.last == 0))
+}
+
+// The part table: where names, scopes, frames, nodes, declarators and statements begin, and the length of the file.
+pub fn part_offsets(h: Header) -> [usize; 7]
+    ensures { λ r. ⌜ r ≡ namesStart h ∷ scopesStart h ∷ framesStart h ∷ nodesStart h ∷ declaratorsStart h ∷ statementsStart h ∷ fileLength h ∷ [] ⌝ }
+{
+    let names = 24;
+    let scopes = names + 12 * size(h.names);
+    let frames = scopes + 4 * size(h.scopes);
+    let nodes = frames + 8 * size(h.frames);
+    let declarators = nodes + 12 * size(h.nodes);
+    let statements = declarators + 4 * size(h.declarators);
+    let length = statements + 4 * size(h.statements);
+    [names, scopes, frames, nodes, declarators, statements, length]
+}
+
+// Row 4, by the length that the part table ends with.
+pub fn other_length(file: &[u8], h: Header) -> bool
+    ensures { λ r. ⌜ r ≡ otherLength (now (file .entry)) h ⌝ }
+{
+    let parts = part_offsets(h);
+    !(file.len() == parts[6])
+}

@@ -1,0 +1,95 @@
+// Row 7 of the refusal table: a node by itself.
+ghost use mathlib.Core.Path.{_≡_};
+ghost use lib.ListN.{getD};
+ghost use Rattle.records.specs.Node.{fewest, most, goodChildren, goodFlags, mayMark, goodNodeOf};
+use crate::layout::NodeRecord;
+use crate::limits::NO_POSITION;
+
+// The fewest and the most children of kinds 0 to 30; 65535: any number.
+const FEWEST: [u16; 31] = [0, 0, 0, 0, 0, 0, 1, 0, 1, 1, 1, 1, 2, 1, 1, 1, 2, 2, 1, 3, 2, 0, 0, 0, 1, 1, 1, 0, 2, 0, 0];
+const MOST: [u16; 31] = [
+    0, 0, 0, 0, 0, 0, 1, 1, 1, 1, 1, 1, 2, 1, 65535, 65535, 2, 2, 1, 3, 2, 65535, 65535, 65535, 65535, 1, 2, 0, 65535, 0, 0,
+];
+
+fn fewest_children(kind: u8) -> u16
+    ensures { λ r. ⌜ r ≡ getD fewest kind 0 ⌝ }
+{
+    let k = kind as usize;
+    if k < 31 {
+        return FEWEST[k];
+    }
+    0
+}
+
+fn most_children(kind: u8) -> u16
+    ensures { λ r. ⌜ r ≡ getD most kind 0 ⌝ }
+{
+    let k = kind as usize;
+    if k < 31 {
+        return MOST[k];
+    }
+    0
+}
+
+fn children_are_good(n: NodeRecord) -> bool
+    ensures { λ r. ⌜ r ≡ goodChildren n ⌝ }
+{
+    let fewest = fewest_children(n.kind);
+    let most = most_children(n.kind);
+    let computed = n.flags / 32 % 2 == 1;
+    let proto = n.flags / 64 % 2 == 1;
+    let two = computed & !proto;
+    (fewest <= n.children)
+        & (n.children <= most)
+        & (!(n.kind == 26) | two & (n.children == 2) | !two & (n.children == 1))
+}
+
+fn flags_are_good(n: NodeRecord) -> bool
+    ensures { λ r. ⌜ r ≡ goodFlags n ⌝ }
+{
+    let optional = n.flags / 2 % 2 == 1;
+    let anonymous = n.flags / 4 % 2 == 1;
+    let compound = n.flags / 8 % 2 == 1;
+    let shorthand = n.flags / 16 % 2 == 1;
+    let computed = n.flags / 32 % 2 == 1;
+    let proto = n.flags / 64 % 2 == 1;
+    let link = (n.kind == 10) | (n.kind == 11) | (n.kind == 12) | (n.kind == 14);
+    (n.flags < 128)
+        & (!optional | link)
+        & (!anonymous | (n.kind == 2) | (n.kind == 3))
+        & (!compound | (n.kind == 20))
+        & (!shorthand | (n.kind == 26))
+        & (!computed | (n.kind == 26))
+        & (!proto | (n.kind == 26))
+        & (!shorthand | !computed)
+}
+
+fn may_mark(n: NodeRecord, name_flags: u16) -> bool
+    ensures { λ r. ⌜ r ≡ mayMark «name_flags» n ⌝ }
+{
+    let unresolved = name_flags / 128 % 2 == 1;
+    let named = (n.kind == 4) | (n.kind == 29);
+    let never = (n.kind == 1)
+        | (n.kind == 2)
+        | (n.kind == 5)
+        | (n.kind == 13)
+        | (n.kind == 26)
+        | (n.kind == 27)
+        | (n.kind == 28);
+    !never & (!named | unresolved)
+}
+
+// A node by itself: `name_flags` are the flags of the name that its label is, among `names` names.
+pub fn node_is_good(n: NodeRecord, names: u16, name_flags: u16) -> bool
+    ensures { λ r. ⌜ r ≡ goodNodeOf names «name_flags» n ⌝ }
+{
+    let named = (n.kind == 4) | (n.kind == 29);
+    let marked = n.flags / 1 % 2 == 1;
+    (n.kind <= 30)
+        & (!named | (n.label < names))
+        & (n.zero == 0)
+        & !(n.position == NO_POSITION)
+        & flags_are_good(n)
+        & (!marked | may_mark(n, name_flags))
+        & children_are_good(n)
+}
