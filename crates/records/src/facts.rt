@@ -5,8 +5,10 @@ ghost use lib.ListN.{length};
 ghost use Rattle.records.specs.Record.{nameAt, scopeAt, frameAt};
 ghost use Rattle.records.specs.Records.{recordsFrom, every, everyFrom};
 ghost use Rattle.records.specs.Facts.{goodName, goodScope, goodFrame};
-use crate::layout::{frame_at, name_at, scope_at, Frame, NameFacts, Scope};
+ghost use Rattle.records.specs.Script.{flagsOf};
+use crate::layout::{frame_at, name_at, scope_at, Frame, NameFacts, NameId, Scope};
 use crate::limits::NO_NUMBER;
+use crate::number::size;
 
 pub fn name_is_good(n: NameFacts, scopes: u16) -> bool
     ensures { λ r. ⌜ r ≡ goodName scopes n ⌝ }
@@ -23,7 +25,7 @@ pub fn name_is_good(n: NameFacts, scopes: u16) -> bool
 pub fn scope_is_good(s: Scope, i: usize) -> bool
     ensures { λ r. ⌜ r ≡ goodScope i s ⌝ }
 {
-    let parent = crate::number::size(s.parent);
+    let parent = size(s.parent);
     (s.flags < 4) & ((i == 0) & (s.parent == NO_NUMBER) | !(i == 0) & (parent < i))
 }
 
@@ -45,4 +47,44 @@ pub fn names_are_good(file: &[u8], from: usize, count: usize, scopes: u16) -> bo
         i += 1;
     }
     good
+}
+
+// Whether all of the scopes from `from` on are good.
+pub fn scopes_are_good(file: &[u8], from: usize, count: usize) -> bool
+    requires { ⌜ from + 4 * count ≤ length (now file) ⌝ }
+    ensures { λ r. ⌜ r ≡ everyFrom goodScope 0 (recordsFrom (scopeAt (now (file .entry))) 4 count from) ⌝ }
+{
+    let mut good = true;
+    let mut i = 0;
+    while i < count {
+        good = good & scope_is_good(scope_at(file, from + 4 * i), i);
+        i += 1;
+    }
+    good
+}
+
+// Whether all of the frames from `from` on are good.
+pub fn frames_are_good(file: &[u8], from: usize, count: usize, scopes: u16) -> bool
+    requires { ⌜ from + 8 * count ≤ length (now file) ⌝ }
+    ensures { λ r. ⌜ r ≡ every (goodFrame scopes) (recordsFrom (frameAt (now (file .entry))) 8 count from) ⌝ }
+{
+    let mut good = true;
+    let mut i = 0;
+    while i < count {
+        good = good & frame_is_good(frame_at(file, from + 8 * i), scopes);
+        i += 1;
+    }
+    good
+}
+
+// The flags of a name, 0 if there are not so many names.
+pub fn flags_of(file: &[u8], names: u16, name: NameId) -> u16
+    requires { ⌜ 24 + 12 * names ≤ length (now file) ⌝ }
+    ensures { λ r. ⌜ r ≡ flagsOf (recordsFrom (nameAt (now (file .entry))) 12 names 24) (name .0) ⌝ }
+{
+    if name.0 < names {
+        let facts = name_at(file, 24 + 12 * size(name.0));
+        return facts.flags;
+    }
+    0
 }

@@ -1,8 +1,12 @@
 // Row 7 of the refusal table: a node by itself.
 ghost use mathlib.Core.Path.{_≡_};
-ghost use lib.ListN.{getD};
-ghost use Rattle.records.specs.Node.{fewest, most, goodChildren, goodFlags, mayMark, goodNodeOf};
-use crate::layout::NodeRecord;
+ghost use Prim.Native.Nat.{_+_, _*_, _≤_};
+ghost use lib.ListN.{length, getD};
+ghost use Rattle.records.specs.Record.{nameAt, nodeAt};
+ghost use Rattle.records.specs.Records.{recordsFrom, every};
+ghost use Rattle.records.specs.Node.{fewest, most, goodChildren, goodFlags, mayMark, goodNodeOf, goodNode};
+use crate::facts::flags_of;
+use crate::layout::{node_at, NameId, NodeRecord};
 use crate::limits::NO_POSITION;
 
 // The fewest and the most children of kinds 0 to 30; 65535: any number.
@@ -92,4 +96,20 @@ pub fn node_is_good(n: NodeRecord, names: u16, name_flags: u16) -> bool
         & flags_are_good(n)
         & (!marked | may_mark(n, name_flags))
         & children_are_good(n)
+}
+
+// Whether all of the nodes from `from` on are good.
+pub fn nodes_are_good(file: &[u8], from: usize, count: usize, names: u16) -> bool
+    requires { ⌜ from + 12 * count ≤ length (now file) ⌝ }
+    requires { ⌜ 24 + 12 * names ≤ length (now file) ⌝ }
+    ensures { λ r. ⌜ r ≡ every (goodNode (recordsFrom (nameAt (now (file .entry))) 12 names 24)) (recordsFrom (nodeAt (now (file .entry))) 12 count from) ⌝ }
+{
+    let mut good = true;
+    let mut i = 0;
+    while i < count {
+        let n = node_at(file, from + 12 * i);
+        good = good & node_is_good(n, names, flags_of(file, names, NameId(n.label)));
+        i += 1;
+    }
+    good
 }

@@ -3,6 +3,7 @@ ghost use mathlib.Core.Path.{_≡_};
 ghost use Prim.Native.Nat.{_+_, _*_, _≤_, _<_};
 ghost use lib.ListN.{length, getD};
 ghost use Rattle.records.specs.Bytes.{u16At, u32At};
+ghost use Rattle.records.specs.File.{one as oneOf};
 
 // A byte as a wider number.
 pub fn wide(x: u8) -> u16
@@ -38,4 +39,11 @@ pub fn size(x: u16) -> usize
     ensures { λ r. ⌜ (r ≡ x) × (r < 65536) ⌝ }
 {
     x as usize
+}
+
+// 1 for a test that holds, else 0.
+pub fn one(b: bool) -> usize
+    ensures { λ r. ⌜ (r ≡ oneOf b) × (r ≤ 1) ⌝ }
+{
+    if b { 1 } else { 0 }
 }

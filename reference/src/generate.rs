@@ -1,0 +1,9 @@
+//! Files to judge, made anew at every run from seeds and tables.
+
+pub mod case;
+pub mod damage;
+pub mod exhaustive;
+pub mod limits;
+pub mod nests;
+pub mod random_file;
+pub mod refusals;
