@@ -84,14 +84,14 @@ pub fn entries(cases: &[Case]) -> Vec<u8> {
 }
 
 /// An entry taken apart again.
-pub struct Entry {
-    pub room: usize,
-    pub answer: Answer,
-    pub file: Vec<u8>,
+struct Entry {
+    room: usize,
+    answer: Answer,
+    file: Vec<u8>,
 }
 
 /// Reads entries until the bytes end.
-pub struct Reader<'b>(pub &'b [u8]);
+struct Reader<'b>(&'b [u8]);
 
 impl Reader<'_> {
     fn take(&mut self, count: usize) -> Option<&[u8]> {
@@ -141,4 +141,17 @@ impl Iterator for Reader<'_> {
         }
         Some(entry.ok_or_else(|| format!("an entry is cut short, {left} bytes before the end")))
     }
+}
+
+/// Folds every file anew and compares. How many entries there are.
+pub fn replay(bytes: &[u8]) -> Result<usize, String> {
+    let mut count = 0;
+    for entry in Reader(bytes) {
+        let entry = entry?;
+        if fold(&entry.file, entry.room) != entry.answer {
+            return Err(format!("the answer of entry {count} isn't the fold's"));
+        }
+        count += 1;
+    }
+    Ok(count)
 }

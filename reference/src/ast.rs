@@ -304,7 +304,9 @@ pub enum ArrayExpressionElement<'a> {
 
 impl<'a> ArrayExpressionElement<'a> {
     pub fn to_expression_mut(&mut self) -> &mut Expression<'a> {
-        let Self::Expression(expression) = self else { panic!("only an expression is wanted here") };
+        let Self::Expression(expression) = self else {
+            panic!("only an expression is wanted here")
+        };
         expression
     }
 }
@@ -331,7 +333,10 @@ pub struct ObjectProperty<'a> {
 
 pub enum PropertyKey<'a> {
     /// A key that is written down, `__proto__` or another.
-    StaticIdentifier { span: Span, proto: bool },
+    StaticIdentifier {
+        span: Span,
+        proto: bool,
+    },
     Expression(Expression<'a>),
 }
 

@@ -67,9 +67,7 @@ impl<'a> Expression<'a> {
             Self::ConditionalExpression(it) => {
                 of(&it.test) || of(&it.consequent) || of(&it.alternate)
             }
-            Self::AssignmentExpression(it) => {
-                it.left.may_have_side_effects(ctx) || of(&it.right)
-            }
+            Self::AssignmentExpression(it) => it.left.may_have_side_effects(ctx) || of(&it.right),
             Self::ArrayExpression(it) => any_has_effect(&it.elements, ctx),
             Self::ObjectExpression(it) => any_has_effect(&it.properties, ctx),
             Self::TemplateLiteral(it) => any_has_effect(&it.expressions, ctx),

@@ -1,12 +1,101 @@
+//! The Rust functions of oxc_minifier 0.157.0 as judge of the fold. `README.md` lists the commands.
+
+mod answer_list;
+mod answers;
 mod arena;
 mod ast;
+mod build;
 #[rustfmt::skip] // the text is that of the crate
 mod carried;
+mod checks;
+mod commands;
 mod context;
 mod convert;
 mod effects;
 mod fold;
+mod foldlist;
+mod generate;
+mod origin;
+mod random;
 mod record;
 mod refusal;
+mod scripts;
 
-fn main() { let _ = fold::fold(&[], 0); }
+use std::io::{self, BufWriter, Read, Write};
+use std::path::Path;
+use std::process::ExitCode;
+
+use commands::batch::{FAMILIES, batch};
+use commands::check::{FULL, SHORT, check_all};
+use commands::write::write_all;
+
+/// The carried functions recurse, and a tree may be nearly 3,000 deep.
+const STACK_BYTES: usize = 512 << 20;
+
+fn main() -> ExitCode {
+    let work = std::thread::Builder::new().stack_size(STACK_BYTES).spawn(run);
+    let outcome = work.expect("a thread starts").join().expect("the work doesn't panic");
+    match outcome {
+        Ok(()) => ExitCode::SUCCESS,
+        Err(what) => {
+            eprintln!("{what}");
+            ExitCode::FAILURE
+        }
+    }
+}
+
+fn run() -> Result<(), String> {
+    let arguments: Vec<String> = std::env::args().skip(1).collect();
+    let arguments: Vec<&str> = arguments.iter().map(String::as_str).collect();
+    match arguments[..] {
+        ["check", directory] => no_difference(check_all(Path::new(directory), FULL)),
+        ["check", "--short", directory] => no_difference(check_all(Path::new(directory), SHORT)),
+        ["write", directory] => write_all(Path::new(directory)),
+        ["origin", directory] => origin::compare(Path::new(directory)),
+        ["foldlist"] => {
+            print!("{}", foldlist::foldlist(&standard_input()?));
+            Ok(())
+        }
+        ["fold", room] => fold_input(room),
+        ["replay"] => replay(&standard_input()?),
+        ["batch", family, ref numbers @ ..] => run_batch(family, numbers),
+        _ => Err(format!("{USAGE}{FAMILIES}")),
+    }
+}
+
+const USAGE: &str = "reference check [--short] DIRECTORY | write DIRECTORY | origin CRATE | \
+                     foldlist | fold ROOM | replay | batch FAMILY, a family being one of ";
+
+fn no_difference(differences: usize) -> Result<(), String> {
+    if differences == 0 { Ok(()) } else { Err(format!("{differences} parts differ")) }
+}
+
+fn standard_input() -> Result<Vec<u8>, String> {
+    let mut input = Vec::new();
+    io::stdin().read_to_end(&mut input).map_err(|error| error.to_string())?;
+    Ok(input)
+}
+
+fn number<T: std::str::FromStr>(text: &str) -> Result<T, String> {
+    text.parse().map_err(|_| format!("`{text}` is no number"))
+}
+
+/// The result goes to the output, the numbers to the error output.
+fn fold_input(room: &str) -> Result<(), String> {
+    let answer = fold::fold(&standard_input()?, number(room)?);
+    eprintln!("returned {} folds {} looks {}", answer.number, answer.folds, answer.looks);
+    io::stdout().write_all(&answer.result).map_err(|error| error.to_string())
+}
+
+/// Compares the answers in the input with the fold's.
+fn replay(input: &[u8]) -> Result<(), String> {
+    println!("{} answers replayed", answers::replay(input)?);
+    Ok(())
+}
+
+fn run_batch(family: &str, numbers: &[&str]) -> Result<(), String> {
+    let numbers: Vec<u64> = numbers.iter().map(|text| number(text)).collect::<Result<_, _>>()?;
+    let mut out = BufWriter::new(io::stdout().lock());
+    batch(family, &numbers, &mut out)?;
+    out.flush().map_err(|error| error.to_string())
+}

@@ -173,9 +173,7 @@ fn children_fit(it: &Node) -> bool {
         | kind::CHAIN
         | kind::PRIVATE_IN
         | kind::SPREAD => it.children == 1,
-        kind::COMPUTED_MEMBER | kind::BINARY | kind::LOGICAL | kind::ASSIGNMENT => {
-            it.children == 2
-        }
+        kind::COMPUTED_MEMBER | kind::BINARY | kind::LOGICAL | kind::ASSIGNMENT => it.children == 2,
         kind::CONDITIONAL => it.children == 3,
         kind::YIELD => it.children <= 1,
         kind::CALL | kind::NEW | kind::TAGGED_TEMPLATE => it.children >= 1,
@@ -208,9 +206,7 @@ impl Wanted {
             Self::Expression => is_expression(child),
             Self::ShorthandName => child == kind::NAME,
             Self::ChainElement => is_member || child == kind::CALL,
-            Self::Target => {
-                is_member || child == kind::TARGET_NAME || child == kind::OPAQUE_TARGET
-            }
+            Self::Target => is_member || child == kind::TARGET_NAME || child == kind::OPAQUE_TARGET,
             Self::Argument => is_expression(child) || child == kind::SPREAD,
             Self::ArrayItem => {
                 is_expression(child) || child == kind::SPREAD || child == kind::ELISION

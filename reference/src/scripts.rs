@@ -1,9 +1,7 @@
 //! The twelve scripts, each with its text, its file and the file that its fold must give. The results
 //! are put together by hand, not by the fold.
 
-use crate::build::{
-    Line, PLAIN_NAME, Tree, UNRESOLVED_NAME, declared_name, empty_file, push_line,
-};
+use crate::build::{Line, PLAIN_NAME, Tree, UNRESOLVED_NAME, declared_name, empty_file, push_line};
 use crate::record::*;
 
 pub struct Script {
@@ -208,10 +206,7 @@ fn member_as_tag() -> Script {
         ("let v=a.b; v``", "(0,a.b)``"),
         1,
         vec![declared_name(1), PLAIN_NAME],
-        &[
-            declare(statement::LET, FIRST, member(SECOND, 6)),
-            expression(tagged(name(FIRST, 11))),
-        ],
+        &[declare(statement::LET, FIRST, member(SECOND, 6)), expression(tagged(name(FIRST, 11)))],
         &[expression(tagged(indirect))],
     )
 }

@@ -15,17 +15,17 @@ use Rattle.records.specs.declared.layout.StatementRecord.{StatementRecor
 unfoldable pub isExpression : ℕ → Bool
 isExpression kind = ltb kind 25 || eqb kind 28
 
--- Whether a child of this kind may stand under a parent of a kind and flags, as its first child or a later one:
+-- Whether a child of this kind may stand under a parent of a kind and flags, as the child of this number:
 -- 22 "holds 25, 26 alone"; 13 holds "kind 10, 11, 12 or 14"; 20's target is 10, 11, 12, 29, 30; a shorthand's child is a
 -- name; elisions stand in 21 alone, spreads in 21, 22 and arguments.
-unfoldable pub mayStand : ℕ → ℕ → Bool → ℕ → Bool
-mayStand parent flags first kind =
+unfoldable pub mayStand : ℕ → ℕ → ℕ → ℕ → Bool
+mayStand parent flags index kind =
     cond (eqb parent 22) (eqb kind 25 || eqb kind 26)
     (cond (eqb parent 13) (isLink kind)
-    (cond (eqb parent 20 && first) (eqb kind 10 || eqb kind 11 || eqb kind 12 || eqb kind 29 || eqb kind 30)
+    (cond (eqb parent 20 && eqb index 0) (eqb kind 10 || eqb kind 11 || eqb kind 12 || eqb kind 29 || eqb kind 30)
     (cond (eqb parent 26 && shorthand flags) (eqb kind 4)
     (cond (eqb parent 21) (isExpression kind || eqb kind 25 || eqb kind 27)
-    (cond ((eqb parent 14 || eqb parent 15) && not first) (isExpression kind || eqb kind 25)
+    (cond ((eqb parent 14 || eqb parent 15) && not (eqb index 0)) (isExpression kind || eqb kind 25)
     (isExpression kind))))))
 
 -- a tree of 10, 11, 12 and 14 along first children with an optional node among them, so that a 13 must stand above it
@@ -44,19 +44,21 @@ root (node n kids) = n
 abbrev pub chains : ℕ → Bool
 chains kind = eqb kind 13 || isLink kind
 
--- every child stands where it may, the first of these being the first child or not, and "an optional node reaches a 13
--- above it by first children of 10, 11, 12 and 14 alone"
-unfoldable pub standUnder : Node → Bool → Trees → Bool
-standUnder p first none = true
-standUnder p first (more t ts) =
-    mayStand (p .kind) (p .flags) first (root t .kind)
-    && (not (loose t) || first && chains (p .kind))
-    && standUnder p false ts
+-- "An optional node reaches a 13 above it by first children of 10, 11, 12 and 14 alone": what a child of this number may
+-- be under a parent of this kind.
+unfoldable pub mayBeLoose : ℕ → ℕ → Bool
+mayBeLoose parent index = eqb index 0 && chains parent
+
+-- every child stands where it may, where the first of these is the child of number i
+unfoldable pub standUnder : Node → ℕ → Trees → Bool
+standUnder p i none = true
+standUnder p i (more t ts) =
+    mayStand (p .kind) (p .flags) i (root t .kind) && (not (loose t) || mayBeLoose (p .kind) i) && standUnder p (i + 1) ts
 
 -- so it is at every node
 unfoldable mutual
   pub placed : Tree → Bool
-  placed (node n kids) = standUnder n true kids && allPlaced kids
+  placed (node n kids) = standUnder n 0 kids && allPlaced kids
 
   pub allPlaced : Trees → Bool
   allPlaced none = true

@@ -27,7 +27,10 @@ fn read_statement<'a>(
             let own = declarators.take(usize::from(it.declarators));
             let declarations = own.map(|it| read_declarator(it, trees)).collect();
             let kind = declaration_kind(it.kind);
-            Statement::VariableDeclaration(ArenaBox::new(VariableDeclaration { kind, declarations }))
+            Statement::VariableDeclaration(ArenaBox::new(VariableDeclaration {
+                kind,
+                declarations,
+            }))
         }
     }
 }
@@ -150,18 +153,22 @@ impl Trees<'_> {
                 left: self.expression(),
                 right: self.expression(),
             })),
-            kind::PRIVATE_IN => Expression::PrivateInExpression(ArenaBox::new(
-                PrivateInExpression { span, note, right: self.expression() },
-            )),
-            kind::CONDITIONAL => Expression::ConditionalExpression(ArenaBox::new(
-                ConditionalExpression {
+            kind::PRIVATE_IN => {
+                Expression::PrivateInExpression(ArenaBox::new(PrivateInExpression {
+                    span,
+                    note,
+                    right: self.expression(),
+                }))
+            }
+            kind::CONDITIONAL => {
+                Expression::ConditionalExpression(ArenaBox::new(ConditionalExpression {
                     span,
                     note,
                     test: self.expression(),
                     consequent: self.expression(),
                     alternate: self.expression(),
-                },
-            )),
+                }))
+            }
             other => unreachable!("no expression has kind {other}"),
         }
     }

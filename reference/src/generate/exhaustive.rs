@@ -58,17 +58,16 @@ fn heads(kind: u8, flags: &[u8], places: &[Place]) -> Vec<Head> {
 const NO_FLAG: &[u8] = &[0];
 const MARKS: &[u8] = &[0, flag::MARK];
 const DEFINITIONS: &[u8] = &[0, flag::ANONYMOUS];
-const CLASSES: &[u8] =
-    &[0, flag::MARK, flag::ANONYMOUS, flag::MARK | flag::ANONYMOUS];
-const OPTIONALS: &[u8] =
-    &[0, flag::MARK, flag::OPTIONAL, flag::MARK | flag::OPTIONAL];
-const ASSIGNMENTS: &[u8] =
-    &[0, flag::MARK, flag::COMPOUND, flag::MARK | flag::COMPOUND];
+const CLASSES: &[u8] = &[0, flag::MARK, flag::ANONYMOUS, flag::MARK | flag::ANONYMOUS];
+const OPTIONALS: &[u8] = &[0, flag::MARK, flag::OPTIONAL, flag::MARK | flag::OPTIONAL];
+const ASSIGNMENTS: &[u8] = &[0, flag::MARK, flag::COMPOUND, flag::MARK | flag::COMPOUND];
 
 /// Every root with so many children that may stand at the place.
 fn heads_at(place: Place, children: usize) -> Vec<Head> {
     match place {
-        Place::Expression => [plain_heads(children), link_heads(MARKS, Place::Expression, children)],
+        Place::Expression => {
+            [plain_heads(children), link_heads(MARKS, Place::Expression, children)]
+        }
         Place::InChain => [plain_heads(children), link_heads(OPTIONALS, Place::InChain, children)],
         Place::ChainElement => [Vec::new(), link_heads(OPTIONALS, Place::InChain, children)],
         Place::Target => [target_heads(children), Vec::new()],
@@ -254,13 +253,7 @@ impl Sizes {
     }
 
     /// Every way of filling the places with so many nodes, put behind the row.
-    fn fill(
-        &self,
-        places: &[Place],
-        nodes: usize,
-        row: &mut Row,
-        emit: &mut dyn FnMut(&[Node]),
-    ) {
+    fn fill(&self, places: &[Place], nodes: usize, row: &mut Row, emit: &mut dyn FnMut(&[Node])) {
         let Some((&place, later)) = places.split_first() else {
             if nodes == 0 && searched_names(row) <= 1 {
                 emit(row);

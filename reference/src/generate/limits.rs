@@ -137,9 +137,9 @@ fn most_folds() -> Vec<Case> {
     ]
 }
 
-/// Literals behind a wide tree, searched for one after the other.
+/// Literals behind a wide tree, searched for one after the other; as many nodes as a file may have.
 fn many_looks(folded: bool) -> RecordFile {
-    let mut items = vec![Tree::name(DECLARED); 1990];
+    let mut items = vec![Tree::name(DECLARED); 1979];
     if folded {
         items.extend((0..DECLARED).map(Tree::name));
     }

@@ -22,8 +22,7 @@ pub fn random_file(seed: u64, case: u64, size: usize) -> RecordFile {
 fn choose_scopes(random: &mut Random, file: &mut RecordFile) {
     let count = random.between(1, 5);
     for number in 1..count {
-        let flags =
-            random.bit16(35, scope::FUNCTION) | random.bit16(3, scope::DIRECT_EVAL);
+        let flags = random.bit16(35, scope::FUNCTION) | random.bit16(3, scope::DIRECT_EVAL);
         file.scopes.push(Scope { parent: random.u16_below(number), flags });
     }
     file.scopes[0].flags = random.bit16(10, scope::FUNCTION) | random.bit16(2, scope::DIRECT_EVAL);
@@ -55,13 +54,8 @@ fn choose_names(random: &mut Random, declared: usize, file: &mut RecordFile) {
 }
 
 fn declared_name(random: &mut Random, scopes: usize) -> Name {
-    let mut flags = random.pick(&[
-        name::BLOCK_SCOPED,
-        name::BLOCK_SCOPED,
-        name::BLOCK_SCOPED,
-        name::VAR,
-        0,
-    ]);
+    let mut flags =
+        random.pick(&[name::BLOCK_SCOPED, name::BLOCK_SCOPED, name::BLOCK_SCOPED, name::VAR, 0]);
     flags |= random.bit16(3, name::CATCH)
         | random.bit16(3, name::OBSERVABLE)
         | random.bit16(2, name::IMPORT)
@@ -432,7 +426,8 @@ impl<'r> Writer<'r> {
     fn parts(&mut self, mut nodes: usize, count: usize) -> Vec<Tree> {
         let mut out = Vec::new();
         for left in (1..=count).rev() {
-            let share = if left == 1 { nodes } else { self.random.between(1, (nodes / left).max(1)) };
+            let share =
+                if left == 1 { nodes } else { self.random.between(1, (nodes / left).max(1)) };
             out.push(self.expression(share));
             nodes = nodes.saturating_sub(share);
         }

@@ -460,8 +460,16 @@ fn misplaced_children(cases: &mut Cases) {
             let tree = Tree::new(of, vec![e(), child.clone()]);
             cases.tree(8, &format!("{what} second in kind {of}"), tree);
         }
-        cases.tree(8, &format!("{what} as a value"), Tree::new(kind::ASSIGNMENT, vec![opaque(), child.clone()]));
-        cases.tree(8, &format!("{what} in a spread"), call(vec![Tree::new(kind::SPREAD, vec![child])]));
+        cases.tree(
+            8,
+            &format!("{what} as a value"),
+            Tree::new(kind::ASSIGNMENT, vec![opaque(), child.clone()]),
+        );
+        cases.tree(
+            8,
+            &format!("{what} in a spread"),
+            call(vec![Tree::new(kind::SPREAD, vec![child])]),
+        );
     }
     for (what, child) in [("property", property()), ("elision", elision()), ("target", target())] {
         cases.tree(8, &format!("{what} as an argument"), call(vec![child]));

@@ -1,0 +1,25 @@
+-- `records::write::scope_bytes` meets its contract. Assumes nothing.
+use mathlib.Core.Path.{refl}
+use Rattle.records.specs.Record.{scopeBytes}
+use borrow.Author.Needs.{needs}
+use Rattle.records.proofs.write.scope_bytes.Statement.{statement}
+use Rattle.records.proofs.write.scope_bytes.Tie as tie
+
+cast-t3 : tie.Need-cast-t3
+cast-t3 c = search needs
+
+cast-t5 : tie.Need-cast-t5
+cast-t5 c = search needs
+
+cast-t7 : tie.Need-cast-t7
+cast-t7 c = search needs
+
+cast-t9 : tie.Need-cast-t9
+cast-t9 c = search needs
+
+returns : tie.Need-returns
+unfolding scopeBytes
+returns c = refl
+
+pub scope-bytes-spec : {M : Type 1} → statement M
+scope-bytes-spec = tie.close (tie.spec cast-t3 cast-t5 cast-t7 cast-t9 returns)

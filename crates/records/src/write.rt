@@ -1,0 +1,125 @@
+// The writers: each lays a record down at the start of the slice that it gets, and leaves what follows as it was.
+ghost use mathlib.Core.Path.{_≡_};
+ghost use mathlib.Core.List.{_++_};
+ghost use Prim.Native.Nat.{_≤_};
+ghost use lib.ListN.{length, drop};
+ghost use Rattle.records.specs.Record.{headerBytes, nameBytes, scopeBytes, frameBytes, nodeBytes, declaratorBytes, statementBytes};
+use crate::layout::{DeclaratorRecord, Frame, Header, NameFacts, NodeRecord, Scope, StatementRecord};
+
+// The bytes of a record of each kind.
+pub fn header_bytes(h: Header) -> [u8; 24]
+    ensures { λ r. ⌜ r ≡ headerBytes h ⌝ }
+{
+    [
+        b'W',
+        b'S',
+        b'F',
+        h.options,
+        (h.version % 256) as u8,
+        (h.version / 256) as u8,
+        (h.names % 256) as u8,
+        (h.names / 256) as u8,
+        (h.scopes % 256) as u8,
+        (h.scopes / 256) as u8,
+        (h.frames % 256) as u8,
+        (h.frames / 256) as u8,
+        (h.nodes % 256) as u8,
+        (h.nodes / 256) as u8,
+        (h.declarators % 256) as u8,
+        (h.declarators / 256) as u8,
+        (h.statements % 256) as u8,
+        (h.statements / 256) as u8,
+        (h.current_scope % 256) as u8,
+        (h.current_scope / 256) as u8,
+        (h.this_scope % 256) as u8,
+        (h.this_scope / 256) as u8,
+        (h.last % 256) as u8,
+        (h.last / 256) as u8,
+    ]
+}
+
+pub fn name_bytes(n: NameFacts) -> [u8; 12]
+    ensures { λ r. ⌜ r ≡ nameBytes n ⌝ }
+{
+    [
+        (n.flags % 256) as u8,
+        (n.flags / 256) as u8,
+        (n.scope % 256) as u8,
+        (n.scope / 256) as u8,
+        (n.reads % 256) as u8,
+        (n.reads / 256 % 256) as u8,
+        (n.reads / 65536 % 256) as u8,
+        (n.reads / 16777216) as u8,
+        (n.writes % 256) as u8,
+        (n.writes / 256 % 256) as u8,
+        (n.writes / 65536 % 256) as u8,
+        (n.writes / 16777216) as u8,
+    ]
+}
+
+pub fn scope_bytes(s: Scope) -> [u8; 4]
+    ensures { λ r. ⌜ r ≡ scopeBytes s ⌝ }
+{
+    [
+        (s.parent % 256) as u8,
+        (s.parent / 256) as u8,
+        (s.flags % 256) as u8,
+        (s.flags / 256) as u8,
+    ]
+}
+
+pub fn frame_bytes(f: Frame) -> [u8; 8]
+    ensures { λ r. ⌜ r ≡ frameBytes f ⌝ }
+{
+    [
+        (f.scope % 256) as u8,
+        (f.scope / 256) as u8,
+        (f.zero % 256) as u8,
+        (f.zero / 256) as u8,
+        (f.initialised % 256) as u8,
+        (f.initialised / 256 % 256) as u8,
+        (f.initialised / 65536 % 256) as u8,
+        (f.initialised / 16777216) as u8,
+    ]
+}
+
+pub fn node_bytes(n: NodeRecord) -> [u8; 12]
+    ensures { λ r. ⌜ r ≡ nodeBytes n ⌝ }
+{
+    [
+        n.kind,
+        n.flags,
+        (n.label % 256) as u8,
+        (n.label / 256) as u8,
+        (n.children % 256) as u8,
+        (n.children / 256) as u8,
+        (n.zero % 256) as u8,
+        (n.zero / 256) as u8,
+        (n.position % 256) as u8,
+        (n.position / 256 % 256) as u8,
+        (n.position / 65536 % 256) as u8,
+        (n.position / 16777216) as u8,
+    ]
+}
+
+pub fn declarator_bytes(d: DeclaratorRecord) -> [u8; 4]
+    ensures { λ r. ⌜ r ≡ declaratorBytes d ⌝ }
+{
+    [
+        (d.name % 256) as u8,
+        (d.name / 256) as u8,
+        (d.present % 256) as u8,
+        (d.present / 256) as u8,
+    ]
+}
+
+pub fn statement_bytes(s: StatementRecord) -> [u8; 4]
+    ensures { λ r. ⌜ r ≡ statementBytes s ⌝ }
+{
+    [
+        s.kind,
+        s.zero,
+        (s.declarators % 256) as u8,
+        (s.declarators / 256) as u8,
+    ]
+}

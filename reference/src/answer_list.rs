@@ -1,0 +1,185 @@
+//! Which cases are kept as answers.
+
+use std::collections::HashSet;
+use std::hash::Hash;
+
+use crate::fold::{Answer, fold};
+use crate::generate::case::Case;
+use crate::generate::damage::damaged;
+use crate::generate::exhaustive::{passed_files, small_files};
+use crate::generate::limits::limits;
+use crate::generate::nests::nests;
+use crate::generate::random_file::random_file;
+use crate::generate::refusals::refusals;
+use crate::random::Random;
+use crate::record::{Node, RecordFile, kind};
+use crate::scripts::scripts;
+
+/// The seed of the random part.
+const SEED: u64 = 157;
+const RANDOM_FILES: usize = 140;
+const DAMAGED_FILES: usize = 60;
+/// Random files longer than this are left out.
+const MOST_BYTES: usize = 420;
+/// Of the files with a flag that a node may not carry, one in so many is kept.
+const FLAGS_KEPT: usize = 3;
+
+/// The list, in the order in which it is written.
+pub fn answer_cases() -> Vec<Case> {
+    let mut cases = Vec::new();
+    cases.extend(scripts().iter().map(|it| Case::of_records(it.text, &it.file)));
+    cases.extend(refusal_cases());
+    cases.extend(limits().into_iter().filter(|case| !case.what.contains("tags over")));
+    cases.extend(nests().iter().map(|(what, file)| Case::of_records(what, file)));
+    cases.extend(small_cases());
+    cases.extend(passed_cases());
+    cases.extend(random_cases());
+    cases.extend(damaged_cases());
+    cases
+}
+
+/// What became of a file.
+#[derive(PartialEq, Eq, Hash)]
+enum Outcome {
+    Folded,
+    Changed,
+    Same,
+}
+
+fn outcome(case: &Case, answer: &Answer) -> Outcome {
+    if answer.folds > 0 {
+        Outcome::Folded
+    } else if answer.result != case.file {
+        Outcome::Changed
+    } else {
+        Outcome::Same
+    }
+}
+
+/// The first case of each sort. The sort of a case is its outcome and whatever else is given for it.
+struct FirstOfEach<K> {
+    seen: HashSet<(K, Outcome)>,
+    cases: Vec<Case>,
+}
+
+impl<K: Eq + Hash> FirstOfEach<K> {
+    fn new() -> Self {
+        Self { seen: HashSet::new(), cases: Vec::new() }
+    }
+
+    fn offer(&mut self, sort: K, case: Case) {
+        let answer = fold(&case.file, case.room);
+        if self.seen.insert((sort, outcome(&case, &answer))) {
+            self.cases.push(case);
+        }
+    }
+}
+
+/// The searched tree's nodes: those behind the initializer.
+fn searched_tree(file: &RecordFile) -> &[Node] {
+    let mut wanted = 1;
+    let mut behind = 0;
+    while wanted > 0 {
+        wanted += usize::from(file.nodes[behind].children);
+        wanted -= 1;
+        behind += 1;
+    }
+    &file.nodes[behind..]
+}
+
+/// The refusals, the many files with a wrong flag thinned out.
+fn refusal_cases() -> Vec<Case> {
+    let mut flags = 0;
+    let kept = |case: &Case| {
+        let of_flags = case.what.contains("with bit");
+        flags += usize::from(of_flags);
+        !of_flags || flags % FLAGS_KEPT == 0
+    };
+    refusals().into_iter().filter(kept).collect()
+}
+
+/// The kind above the name and which child the name is; nothing if the tree doesn't hold it below its
+/// root.
+fn place_of_name(tree: &[Node]) -> Option<(u8, u16)> {
+    let mut above: Vec<(&Node, u16)> = Vec::new();
+    for node in tree {
+        if node.kind == kind::NAME && node.label == 0 {
+            return above.last().map(|&(parent, child)| (parent.kind, child));
+        }
+        above.push((node, 0));
+        while above.last().is_some_and(|&(node, child)| node.children == child) {
+            above.pop();
+            if let Some((_, child)) = above.last_mut() {
+                *child += 1;
+            }
+        }
+    }
+    None
+}
+
+/// Literal and function count as one, and so do the names without effect.
+fn initializer_sort(number: usize) -> usize {
+    match number {
+        0 | 1 => 0,
+        2 | 3 => 2,
+        _ => number,
+    }
+}
+
+/// Trees of up to three nodes: for each place of the name, each sort of initializer, each outcome.
+fn small_cases() -> Vec<Case> {
+    let mut first = FirstOfEach::new();
+    small_files(3, &mut |initializer, file| {
+        let place = place_of_name(searched_tree(&file));
+        let sort = (initializer_sort(initializer), place);
+        first.offer(sort, Case::of_records("a small tree", &file));
+    });
+    first.cases
+}
+
+/// What is passed: for each kind and each label, a function, a name and an effect.
+fn passed_cases() -> Vec<Case> {
+    let mut first = FirstOfEach::new();
+    passed_files(2, &mut |initializer, file| {
+        if matches!(initializer, 1 | 2 | 4) {
+            let passed = searched_tree(&file)[1];
+            let sort = (initializer, passed.kind, passed.label);
+            first.offer(sort, Case::of_records("a passed tree", &file));
+        }
+    });
+    first.cases
+}
+
+/// Short random files, those with folds or changes before others.
+fn random_cases() -> Vec<Case> {
+    let mut out = Vec::new();
+    for case in 0.. {
+        let records = random_file(SEED, case, 16);
+        let candidate = Case::of_records("random", &records);
+        let answer = fold(&candidate.file, candidate.room);
+        let tells = outcome(&candidate, &answer) != Outcome::Same || case % 8 == 0;
+        if tells && candidate.file.len() <= MOST_BYTES {
+            out.push(candidate);
+        }
+        if out.len() == RANDOM_FILES {
+            break;
+        }
+    }
+    out
+}
+
+/// Damaged copies of short random files.
+fn damaged_cases() -> Vec<Case> {
+    let mut out = Vec::new();
+    for case in 0.. {
+        let file = random_file(SEED + 1, case, 6).to_bytes();
+        if file.len() <= MOST_BYTES / 2 {
+            let mut random = Random::new(SEED + 2, case);
+            out.push(Case::new("damaged", damaged(&mut random, &file)));
+        }
+        if out.len() == DAMAGED_FILES {
+            break;
+        }
+    }
+    out
+}

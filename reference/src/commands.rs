@@ -1,0 +1,5 @@
+//! What the program does on command.
+
+pub mod batch;
+pub mod check;
+pub mod write;

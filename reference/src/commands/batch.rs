@@ -1,0 +1,60 @@
+//! Writes many cases with their answers, in the form of the kept answers, for a program to replay.
+
+use std::io::Write;
+
+use crate::answers::write_entry;
+use crate::fold::fold;
+use crate::generate::case::Case;
+use crate::generate::damage::damaged;
+use crate::generate::exhaustive::{passed_files, small_files};
+use crate::generate::limits::limits;
+use crate::generate::nests::nests;
+use crate::generate::random_file::random_file;
+use crate::generate::refusals::refusals;
+use crate::random::Random;
+
+/// The names of the families, with their numbers.
+pub const FAMILIES: &str = "random SEED FIRST COUNT SIZE | damaged SEED FIRST COUNT SIZE | \
+                            small NODES | passed NODES | nests | limits | refusals";
+
+/// Writes the entries of a family to the output.
+pub fn batch(family: &str, numbers: &[u64], out: &mut dyn Write) -> Result<(), String> {
+    each_case(family, numbers, &mut |case| {
+        let mut entry = Vec::new();
+        write_entry(&case, &fold(&case.file, case.room), &mut entry);
+        out.write_all(&entry).expect("the output takes the entry");
+    })
+}
+
+fn each_case(family: &str, numbers: &[u64], put: &mut dyn FnMut(Case)) -> Result<(), String> {
+    let size = |number: u64| usize::try_from(number).expect("small").max(1);
+    match (family, numbers) {
+        ("random", &[seed, first, count, nodes]) => {
+            let file = |case: u64| random_file(seed, case, size(nodes));
+            (first..first + count).for_each(|case| put(Case::of_records("random", &file(case))));
+        }
+        ("damaged", &[seed, first, count, nodes]) => {
+            (first..first + count).for_each(|case| put(damaged_case(seed, case, size(nodes))));
+        }
+        ("small", &[nodes]) => {
+            small_files(size(nodes), &mut |_, file| put(Case::of_records("small", &file)));
+        }
+        ("passed", &[nodes]) => {
+            passed_files(size(nodes), &mut |_, file| put(Case::of_records("passed", &file)));
+        }
+        ("nests", []) => {
+            nests().iter().for_each(|(what, file)| put(Case::of_records(what, file)));
+        }
+        ("limits", []) => limits().into_iter().for_each(put),
+        ("refusals", []) => refusals().into_iter().for_each(put),
+        _ => return Err(format!("a family is one of {FAMILIES}")),
+    }
+    Ok(())
+}
+
+/// A random file, damaged.
+pub fn damaged_case(seed: u64, case: u64, size: usize) -> Case {
+    let file = random_file(seed, case, size).to_bytes();
+    let mut random = Random::new(seed.wrapping_add(1), case);
+    Case::new("damaged", damaged(&mut random, &file))
+}

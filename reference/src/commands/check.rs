@@ -1,0 +1,204 @@
+//! The whole check: hand-made expectations, scripts, kept answers, and what must hold of every fold.
+
+use std::fs;
+use std::path::Path;
+use std::time::Instant;
+
+use super::batch::damaged_case;
+use super::write::{answers_path, script_paths};
+use crate::answer_list::answer_cases;
+use crate::answers::{entries, replay};
+use crate::checks::{Finding, Totals, check_file};
+use crate::fold::fold;
+use crate::foldlist::foldlist;
+use crate::generate::case::Case;
+use crate::generate::exhaustive::{Emit, passed_files, small_files};
+use crate::generate::limits::limits;
+use crate::generate::nests::nests;
+use crate::generate::random_file::random_file;
+use crate::generate::refusals::refusals;
+use crate::scripts::{Script, scripts};
+
+/// How much is generated.
+#[derive(Clone, Copy)]
+pub struct Amount {
+    pub random: u64,
+    pub damaged: u64,
+    pub small_nodes: usize,
+    pub passed_nodes: usize,
+    pub seed: u64,
+}
+
+pub const FULL: Amount =
+    Amount { random: 1_200_000, damaged: 400_000, small_nodes: 4, passed_nodes: 3, seed: 1 };
+pub const SHORT: Amount =
+    Amount { random: 60_000, damaged: 40_000, small_nodes: 3, passed_nodes: 2, seed: 1 };
+
+/// Prints what was compared. The number of differences.
+pub fn check_all(directory: &Path, amount: Amount) -> usize {
+    let mut report = Report { differences: 0 };
+    report.part("scripts", || check_scripts(directory));
+    report.part("expected numbers", check_expected);
+    report.part("kept answers", || check_answers(directory));
+    check_generated(&mut report, amount);
+    report.differences
+}
+
+/// Counts the differences and prints them.
+struct Report {
+    differences: usize,
+}
+
+impl Report {
+    /// Runs a part, which gives what it compared or what differs.
+    fn part(&mut self, what: &str, run: impl FnOnce() -> Result<String, String>) {
+        let start = Instant::now();
+        match run() {
+            Ok(compared) => println!("{what}: {compared} ({:.1?})", start.elapsed()),
+            Err(difference) => {
+                self.differences += 1;
+                println!("{what}: DIFFERENT: {difference}");
+            }
+        }
+    }
+}
+
+fn read(path: &Path) -> Result<Vec<u8>, String> {
+    fs::read(path).map_err(|error| format!("{}: {error}", path.display()))
+}
+
+fn demand(holds: bool, what: impl FnOnce() -> String) -> Result<(), String> {
+    if holds { Ok(()) } else { Err(what()) }
+}
+
+/// The kept files are the scripts, and folding them gives the stated results.
+fn check_scripts(directory: &Path) -> Result<String, String> {
+    let scripts = scripts();
+    for script in &scripts {
+        check_script(directory, script)
+            .map_err(|what| format!("script {} `{}`: {what}", script.number, script.text))?;
+    }
+    check_first_script(&scripts[0])?;
+    Ok(format!("{} files folded to the stated results", scripts.len()))
+}
+
+fn check_script(directory: &Path, script: &Script) -> Result<(), String> {
+    let (file, result) = script_paths(directory, script);
+    let (file, result) = (read(&file)?, read(&result)?);
+    demand(file == script.file.to_bytes(), || "the kept file isn't the script".into())?;
+    demand(result == script.result.to_bytes(), || "the kept result isn't the stated one".into())?;
+    let room = Case::new("", file.clone()).room;
+    let answer = fold(&file, room);
+    demand(answer.number == 0, || format!("refused with {}", answer.number))?;
+    demand(answer.result == result, || format!("folded to {}", script.result_text))?;
+    demand(answer.folds == script.folds, || format!("{} folds", answer.folds))
+}
+
+/// The lengths and lines that are stated for script 1.
+fn check_first_script(script: &Script) -> Result<(), String> {
+    let (file, result) = (script.file.to_bytes(), script.result.to_bytes());
+    let lengths = (file.len(), result.len());
+    demand(lengths == (112, 92), || format!("script 1 has lengths {lengths:?}"))?;
+    let lines = foldlist(&file);
+    demand(lines == "fold 1 statements 1 nodes 3\ns 0 5 0 3\n", || format!("script 1: {lines}"))
+}
+
+/// The cases whose number was worked out by hand.
+fn check_expected() -> Result<String, String> {
+    let cases = [refusals(), limits()].concat_cases();
+    for case in &cases {
+        let number = fold(&case.file, case.room).number;
+        let expected = case.expected.expect("these cases have one");
+        demand(number == expected, || format!("{}: {number}, not {expected}", case.what))?;
+    }
+    Ok(format!("{} files returned the numbers worked out by hand", cases.len()))
+}
+
+trait ConcatCases {
+    fn concat_cases(self) -> Vec<Case>;
+}
+
+impl ConcatCases for [Vec<Case>; 2] {
+    fn concat_cases(self) -> Vec<Case> {
+        self.into_iter().flatten().collect()
+    }
+}
+
+/// The kept list is the one that is made anew, and it reads back.
+fn check_answers(directory: &Path) -> Result<String, String> {
+    let kept = read(&answers_path(directory))?;
+    let cases = answer_cases();
+    let made = entries(&cases);
+    demand(kept == made, || "the kept list isn't the one made anew".into())?;
+    let count = replay(&kept)?;
+    demand(count == cases.len(), || format!("{count} entries, not {}", cases.len()))?;
+    Ok(format!("{count} entries, {} bytes, made anew byte for byte", kept.len()))
+}
+
+/// Files that are made now, family by family.
+fn check_generated(report: &mut Report, amount: Amount) {
+    let mut all = Totals::default();
+    let mut family = |what: &str, run: &dyn Fn(&mut Family)| {
+        report.part(what, || {
+            let mut family = Family::default();
+            run(&mut family);
+            all.add(&family.totals);
+            family.outcome()
+        });
+    };
+    family("hand-made files", &|family| {
+        let cases = [refusals(), limits()].concat_cases();
+        cases.iter().for_each(|case| family.check(case));
+    });
+    family("deep nests", &|family| {
+        nests().iter().for_each(|(what, file)| family.check(&Case::of_records(what, file)));
+    });
+    family("small trees", &|family| {
+        family.check_each(|emit| small_files(amount.small_nodes, emit))
+    });
+    family("passed trees", &|family| {
+        family.check_each(|emit| passed_files(amount.passed_nodes, emit));
+    });
+    family("random files", &|family| {
+        for case in 0..amount.random {
+            let file = random_file(amount.seed, case, size_of(case));
+            family.check(&Case::of_records("random", &file));
+        }
+    });
+    family("damaged files", &|family| {
+        for case in 0..amount.damaged {
+            family.check(&damaged_case(amount.seed, case, size_of(case)));
+        }
+    });
+    println!("all: {}", all.line());
+}
+
+/// Mostly small trees, now and then a large one.
+fn size_of(case: u64) -> usize {
+    if case % 50 == 0 { 200 } else { 8 + usize::try_from(case % 3).expect("small") * 8 }
+}
+
+/// What was seen of a family of files.
+#[derive(Default)]
+struct Family {
+    totals: Totals,
+    findings: Vec<Finding>,
+}
+
+impl Family {
+    fn check(&mut self, case: &Case) {
+        if let Err(finding) = check_file(&case.file, case.room, &mut self.totals) {
+            self.findings.push(finding);
+        }
+    }
+
+    fn check_each(&mut self, each: impl FnOnce(Emit)) {
+        each(&mut |_, file| self.check(&Case::of_records("", &file)));
+    }
+
+    fn outcome(&self) -> Result<String, String> {
+        self.findings.iter().take(10).for_each(|finding| println!("{}", finding.line()));
+        demand(self.findings.is_empty(), || format!("{} findings", self.findings.len()))?;
+        Ok(self.totals.line())
+    }
+}
