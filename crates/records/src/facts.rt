@@ -6,7 +6,13 @@ ghost use Rattle.records.specs.Record.{nameAt, scopeAt, frameAt};
 ghost use Rattle.records.specs.Records.{recordsFrom, every, everyFrom};
 ghost use Rattle.records.specs.Facts.{goodName, goodScope, goodFrame};
 ghost use Rattle.records.specs.Script.{flagsOf};
-use crate::layout::{frame_at, name_at, scope_at, Frame, NameFacts, NameId, Scope};
+use crate::layout::Frame;
+use crate::layout::NameFacts;
+use crate::layout::NameId;
+use crate::layout::Scope;
+use crate::layout::frame_at;
+use crate::layout::name_at;
+use crate::layout::scope_at;
 use crate::limits::NO_NUMBER;
 use crate::number::size;
 

@@ -4,10 +4,17 @@ ghost use mathlib.Core.List.{[], _∷_};
 ghost use Rattle.records.specs.File.{namesStart, scopesStart, framesStart, nodesStart, declaratorsStart, statementsStart, fileLength};
 ghost use Rattle.records.specs.Header.{notAScript, otherVersion, outsideLimits, otherLength};
 use crate::layout::Header;
-use crate::limits::{
-    MAX_DECLARATORS, MAX_FRAMES, MAX_NAMES, MAX_NODES, MAX_SCOPES, MAX_STATEMENTS, MIN_SCOPES, MIN_STATEMENTS, NO_NUMBER,
-};
-use crate::number::{size, wide16};
+use crate::limits::MAX_DECLARATORS;
+use crate::limits::MAX_FRAMES;
+use crate::limits::MAX_NAMES;
+use crate::limits::MAX_NODES;
+use crate::limits::MAX_SCOPES;
+use crate::limits::MAX_STATEMENTS;
+use crate::limits::MIN_SCOPES;
+use crate::limits::MIN_STATEMENTS;
+use crate::limits::NO_NUMBER;
+use crate::number::size;
+use crate::number::wide16;
 
 // Row 1.
 pub fn not_a_script(file: &[u8]) -> bool
@@ -40,7 +47,8 @@ pub fn outside_limits(h: Header) -> bool
         & (h.statements <= MAX_STATEMENTS)
         & (records <= MAX_NODES);
     let options_known = h.options < 16;
-    let scopes_known = (h.current_scope < h.scopes) & ((h.this_scope < h.scopes) | (h.this_scope == NO_NUMBER));
+    let scopes_known = (h.current_scope < h.scopes)
+        & ((h.this_scope < h.scopes) | (h.this_scope == NO_NUMBER));
     !(counts_fit & options_known & scopes_known & (h.last == 0))
 }
 
@@ -55,7 +63,15 @@ pub fn part_offsets(h: Header) -> [usize; 7]
     let declarators = nodes + 12 * size(h.nodes);
     let statements = declarators + 4 * size(h.declarators);
     let length = statements + 4 * size(h.statements);
-    [names, scopes, frames, nodes, declarators, statements, length]
+    [
+        names,
+        scopes,
+        frames,
+        nodes,
+        declarators,
+        statements,
+        length,
+    ]
 }
 
 // Row 4, by the length that the part table ends with.

@@ -3,7 +3,8 @@ ghost use mathlib.Core.Path.{_≡_};
 ghost use Prim.Native.Nat.{_+_, _≤_};
 ghost use lib.ListN.{length};
 ghost use Rattle.records.specs.Record.{headerOf, nameAt, scopeAt, frameAt, nodeAt, declaratorAt, statementAt};
-use crate::number::{u16_at, u32_at};
+use crate::number::u16_at;
+use crate::number::u32_at;
 
 pub struct NameId(pub u16);
 

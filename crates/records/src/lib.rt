@@ -6,4 +6,3 @@ pub mod limits;
 pub mod node;
 pub mod number;
 pub mod script;
-pub mod write;

@@ -6,13 +6,78 @@ ghost use Rattle.records.specs.Record.{nameAt, nodeAt};
 ghost use Rattle.records.specs.Records.{recordsFrom, every};
 ghost use Rattle.records.specs.Node.{fewest, most, goodChildren, goodFlags, mayMark, goodNodeOf, goodNode};
 use crate::facts::flags_of;
-use crate::layout::{node_at, NameId, NodeRecord};
+use crate::layout::NameId;
+use crate::layout::NodeRecord;
+use crate::layout::node_at;
 use crate::limits::NO_POSITION;
 
 // The fewest and the most children of kinds 0 to 30; 65535: any number.
-const FEWEST: [u16; 31] = [0, 0, 0, 0, 0, 0, 1, 0, 1, 1, 1, 1, 2, 1, 1, 1, 2, 2, 1, 3, 2, 0, 0, 0, 1, 1, 1, 0, 2, 0, 0];
+const FEWEST: [u16; 31] = [
+    0,
+    0,
+    0,
+    0,
+    0,
+    0,
+    1,
+    0,
+    1,
+    1,
+    1,
+    1,
+    2,
+    1,
+    1,
+    1,
+    2,
+    2,
+    1,
+    3,
+    2,
+    0,
+    0,
+    0,
+    1,
+    1,
+    1,
+    0,
+    2,
+    0,
+    0,
+];
+
 const MOST: [u16; 31] = [
-    0, 0, 0, 0, 0, 0, 1, 1, 1, 1, 1, 1, 2, 1, 65535, 65535, 2, 2, 1, 3, 2, 65535, 65535, 65535, 65535, 1, 2, 0, 65535, 0, 0,
+    0,
+    0,
+    0,
+    0,
+    0,
+    0,
+    1,
+    1,
+    1,
+    1,
+    1,
+    1,
+    2,
+    1,
+    65535,
+    65535,
+    2,
+    2,
+    1,
+    3,
+    2,
+    65535,
+    65535,
+    65535,
+    65535,
+    1,
+    2,
+    0,
+    65535,
+    0,
+    0,
 ];
 
 fn fewest_children(kind: u8) -> u16

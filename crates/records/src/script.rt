@@ -8,9 +8,14 @@ ghost use Rattle.records.specs.File.{initializers};
 ghost use Rattle.records.specs.Script.{goodDeclarator, goodDeclaratorOf, goodStatement, declaratorSum};
 ghost use Rattle.records.specs.Place.{expressions};
 use crate::facts::flags_of;
-use crate::layout::{declarator_at, statement_at, DeclaratorRecord, NameId, StatementRecord};
+use crate::layout::DeclaratorRecord;
+use crate::layout::NameId;
+use crate::layout::StatementRecord;
+use crate::layout::declarator_at;
+use crate::layout::statement_at;
 use crate::limits::NO_NUMBER;
-use crate::number::{one, size};
+use crate::number::one;
+use crate::number::size;
 
 pub fn declarator_is_good(d: DeclaratorRecord, names: u16, name_flags: u16) -> bool
     ensures { λ r. ⌜ r ≡ goodDeclaratorOf names «name_flags» d ⌝ }

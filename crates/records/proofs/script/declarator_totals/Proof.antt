@@ -51,12 +51,11 @@ loop-less c = omega arith
 
 loop-again : tie.Need-loop-again Inv-loop μ-loop
 unfolding initializers
-loop-again c =
-    (
-      passed-more ((c .before .before .before .before .declarator-at) .result) ((c .before .before .declarator-is-good) .result) ((c .before .before .before .before .before .before .loop) .inv .0) ((c .before .before .before .before .before .loop-test) .taken) ((c .before .before .before .before .declarator-at) .ensures) (declarator-judged _ _ _ ((c .before .before .before .before .declarator-at) .result) ((c .before .before .before .flags-of) .ensures) ((c .before .before .declarator-is-good) .ensures)),
-      summed-more (λ (d : DeclaratorRecord). one (eqb (d .present) 1)) ((c .before .before .before .before .declarator-at) .result) ((c .one) .result) (λ y ys. refl) ((c .before .before .before .before .before .before .loop) .inv .1) ((c .before .before .before .before .before .loop-test) .taken) ((c .before .before .before .before .declarator-at) .ensures) ((c .one) .ensures .0),
-      omega (arith, (c .before .before .before .before .before .before .loop) .inv .2, (c .one) .ensures .1),
-    )
+loop-again c = (
+  passed-more ((c .before .before .before .before .declarator-at) .result) ((c .before .before .declarator-is-good) .result) ((c .before .before .before .before .before .before .loop) .inv .0) ((c .before .before .before .before .before .loop-test) .taken) ((c .before .before .before .before .declarator-at) .ensures) (declarator-judged _ _ _ ((c .before .before .before .before .declarator-at) .result) ((c .before .before .before .flags-of) .ensures) ((c .before .before .declarator-is-good) .ensures)),
+  summed-more (λ (d : DeclaratorRecord). one (eqb (d .present) 1)) ((c .before .before .before .before .declarator-at) .result) ((c .one) .result) (λ y ys. refl) ((c .before .before .before .before .before .before .loop) .inv .1) ((c .before .before .before .before .before .loop-test) .taken) ((c .before .before .before .before .declarator-at) .ensures) ((c .one) .ensures .0),
+  omega (arith, (c .before .before .before .before .before .before .loop) .inv .2, (c .one) .ensures .1),
+)
 
 returns : tie.Need-returns Inv-loop μ-loop
 unfolding initializers

@@ -53,14 +53,13 @@ loop-less c = omega arith
 
 loop-again : tie.Need-loop-again Inv-loop μ-loop
 unfolding declaratorSum expressions
-loop-again c =
-    (
-      passed-more ((c .before .before .before .before .statement-at) .result) ((c .before .before .before .statement-is-good) .result) ((c .before .before .before .before .before .before .loop) .inv .0) ((c .before .before .before .before .before .loop-test) .taken) ((c .before .before .before .before .statement-at) .ensures) ((c .before .before .before .statement-is-good) .ensures),
-      summed-more (λ (s : StatementRecord). s .declarators) ((c .before .before .before .before .statement-at) .result) ((c .before .before .size) .result) (λ y ys. refl) ((c .before .before .before .before .before .before .loop) .inv .1) ((c .before .before .before .before .before .loop-test) .taken) ((c .before .before .before .before .statement-at) .ensures) ((c .before .before .size) .ensures .0),
-      summed-more (λ (s : StatementRecord). one (eqb (s .kind) 5)) ((c .before .before .before .before .statement-at) .result) ((c .one) .result) (λ y ys. refl) ((c .before .before .before .before .before .before .loop) .inv .2) ((c .before .before .before .before .before .loop-test) .taken) ((c .before .before .before .before .statement-at) .ensures) ((c .one) .ensures .0),
-      omega (arith, (c .before .before .before .before .before .before .loop) .inv .3, (c .before .before .size) .ensures .1),
-      omega (arith, (c .before .before .before .before .before .before .loop) .inv .4, (c .one) .ensures .1),
-    )
+loop-again c = (
+  passed-more ((c .before .before .before .before .statement-at) .result) ((c .before .before .before .statement-is-good) .result) ((c .before .before .before .before .before .before .loop) .inv .0) ((c .before .before .before .before .before .loop-test) .taken) ((c .before .before .before .before .statement-at) .ensures) ((c .before .before .before .statement-is-good) .ensures),
+  summed-more (λ (s : StatementRecord). s .declarators) ((c .before .before .before .before .statement-at) .result) ((c .before .before .size) .result) (λ y ys. refl) ((c .before .before .before .before .before .before .loop) .inv .1) ((c .before .before .before .before .before .loop-test) .taken) ((c .before .before .before .before .statement-at) .ensures) ((c .before .before .size) .ensures .0),
+  summed-more (λ (s : StatementRecord). one (eqb (s .kind) 5)) ((c .before .before .before .before .statement-at) .result) ((c .one) .result) (λ y ys. refl) ((c .before .before .before .before .before .before .loop) .inv .2) ((c .before .before .before .before .before .loop-test) .taken) ((c .before .before .before .before .statement-at) .ensures) ((c .one) .ensures .0),
+  omega (arith, (c .before .before .before .before .before .before .loop) .inv .3, (c .before .before .size) .ensures .1),
+  omega (arith, (c .before .before .before .before .before .before .loop) .inv .4, (c .one) .ensures .1),
+)
 
 returns : tie.Need-returns Inv-loop μ-loop
 unfolding declaratorSum expressions

@@ -1,9 +1,9 @@
--- `records::write::declarator_bytes` meets its contract. Assumes nothing.
+-- `writers::record_bytes::declarator_bytes` meets its contract. Assumes nothing.
 use mathlib.Core.Path.{refl}
 use Rattle.records.specs.Record.{declaratorBytes}
 use borrow.Author.Needs.{needs}
-use Rattle.records.proofs.write.declarator_bytes.Statement.{statement}
-use Rattle.records.proofs.write.declarator_bytes.Tie as tie
+use Rattle.writers.proofs.record_bytes.declarator_bytes.Statement.{statement}
+use Rattle.writers.proofs.record_bytes.declarator_bytes.Tie as tie
 
 cast-t3 : tie.Need-cast-t3
 cast-t3 c = search needs

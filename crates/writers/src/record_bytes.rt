@@ -1,12 +1,14 @@
-// The writers: each lays a record down at the start of the slice that it gets, and leaves what follows as it was.
-ghost use mathlib.Core.Path.{_≡_};
-ghost use mathlib.Core.List.{_++_};
-ghost use Prim.Native.Nat.{_≤_};
-ghost use lib.ListN.{length, drop};
-ghost use Rattle.records.specs.Record.{headerBytes, nameBytes, scopeBytes, frameBytes, nodeBytes, declaratorBytes, statementBytes};
-use crate::layout::{DeclaratorRecord, Frame, Header, NameFacts, NodeRecord, Scope, StatementRecord};
-
 // The bytes of a record of each kind.
+ghost use mathlib.Core.Path.{_≡_};
+ghost use Rattle.records.specs.Record.{headerBytes, nameBytes, scopeBytes, frameBytes, nodeBytes, declaratorBytes, statementBytes};
+use records::layout::DeclaratorRecord;
+use records::layout::Frame;
+use records::layout::Header;
+use records::layout::NameFacts;
+use records::layout::NodeRecord;
+use records::layout::Scope;
+use records::layout::StatementRecord;
+
 pub fn header_bytes(h: Header) -> [u8; 24]
     ensures { λ r. ⌜ r ≡ headerBytes h ⌝ }
 {

@@ -1,10 +1,10 @@
--- `records::write::header_bytes` meets its contract. Assumes nothing.
+-- `writers::record_bytes::header_bytes` meets its contract. Assumes nothing.
 use native.Mathlib.Omega.{arith}
 use mathlib.Core.Path.{refl}
 use Rattle.records.specs.Record.{headerBytes}
 use borrow.Author.Needs.{needs}
-use Rattle.records.proofs.write.header_bytes.Statement.{statement}
-use Rattle.records.proofs.write.header_bytes.Tie as tie
+use Rattle.writers.proofs.record_bytes.header_bytes.Statement.{statement}
+use Rattle.writers.proofs.record_bytes.header_bytes.Tie as tie
 
 cast-t3 : tie.Need-cast-t3
 cast-t3 c = search needs

@@ -1,9 +1,9 @@
--- `records::write::node_bytes` meets its contract. Assumes nothing.
+-- `writers::record_bytes::node_bytes` meets its contract. Assumes nothing.
 use mathlib.Core.Path.{refl}
 use Rattle.records.specs.Record.{nodeBytes}
 use borrow.Author.Needs.{needs}
-use Rattle.records.proofs.write.node_bytes.Statement.{statement}
-use Rattle.records.proofs.write.node_bytes.Tie as tie
+use Rattle.writers.proofs.record_bytes.node_bytes.Statement.{statement}
+use Rattle.writers.proofs.record_bytes.node_bytes.Tie as tie
 
 cast-t3 : tie.Need-cast-t3
 cast-t3 c = search needs

@@ -1,0 +1,2 @@
+-- What the checks of whole trees keep beside a file.
+pub mod Stack

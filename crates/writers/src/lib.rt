@@ -1,0 +1,3 @@
+// The writers of a record file.
+pub mod put;
+pub mod record_bytes;
