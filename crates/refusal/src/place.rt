@@ -23,24 +23,29 @@ pub fn is_link(kind: u16) -> bool
 pub fn may_stand(parent: u16, flags: u8, index: usize, kind: u16) -> bool
     ensures { λ r. ⌜ r ≡ mayStand parent flags index kind ⌝ }
 {
-    let first = index == 0;
     let expression = is_expression(kind);
-    if parent == 22 {
+    let object = parent == 22;
+    let chain = parent == 13;
+    let target = (parent == 20) & (index == 0);
+    let short = (parent == 26) & (flags / 16 % 2 == 1);
+    let array = parent == 21;
+    let argument = ((parent == 14) | (parent == 15)) & !(index == 0);
+    if object {
         return (kind == 25) | (kind == 26);
     }
-    if parent == 13 {
+    if chain {
         return is_link(kind);
     }
-    if (parent == 20) & first {
+    if target {
         return (kind == 10) | (kind == 11) | (kind == 12) | (kind == 29) | (kind == 30);
     }
-    if (parent == 26) & (flags / 16 % 2 == 1) {
+    if short {
         return kind == 4;
     }
-    if parent == 21 {
+    if array {
         return expression | (kind == 25) | (kind == 27);
     }
-    if ((parent == 14) | (parent == 15)) & !first {
+    if argument {
         return expression | (kind == 25);
     }
     expression

@@ -1,4 +1,4 @@
-//! Every tree of up to four nodes, over a small set of names, behind one declarator.
+//! Every tree of up to so many nodes, over a small set of names, behind one declarator.
 
 use crate::build::{PLAIN_NAME, UNRESOLVED_NAME, declared_name, empty_file};
 use crate::record::*;
@@ -95,27 +95,18 @@ fn name_heads(children: usize) -> Vec<Head> {
 
 /// Members and calls, with the flags and the place of the first child that the place allows.
 fn link_heads(flags: &[u8], first: Place, children: usize) -> Vec<Head> {
-    let call = |arguments: usize| {
-        let mut places = vec![first];
-        places.extend(vec![Place::Argument; arguments]);
-        heads(kind::CALL, flags, &places)
-    };
-    match children {
-        1 => [
+    let own = match children {
+        0 => return Vec::new(),
+        1 => vec![
             heads(kind::STATIC_MEMBER, flags, &[first]),
             heads(kind::PRIVATE_MEMBER, flags, &[first]),
-            call(0),
-        ]
-        .into_iter()
-        .flatten()
-        .collect(),
-        2 => [heads(kind::COMPUTED_MEMBER, flags, &[first, Place::Expression]), call(1)]
-            .into_iter()
-            .flatten()
-            .collect(),
-        3 => call(2),
+        ],
+        2 => vec![heads(kind::COMPUTED_MEMBER, flags, &[first, Place::Expression])],
         _ => Vec::new(),
-    }
+    };
+    let mut places = vec![first];
+    places.resize(children, Place::Argument);
+    own.into_iter().flatten().chain(heads(kind::CALL, flags, &places)).collect()
 }
 
 /// The expressions that are neither members nor calls.
@@ -145,7 +136,8 @@ fn plain_heads(children: usize) -> Vec<Head> {
             heads(kind::LOGICAL, MARKS, &[e, e]),
             heads(kind::ASSIGNMENT, ASSIGNMENTS, &[Place::Target, e]),
         ],
-        _ => vec![heads(kind::CONDITIONAL, MARKS, &[e, e, e])],
+        3 => vec![heads(kind::CONDITIONAL, MARKS, &[e, e, e])],
+        _ => Vec::new(),
     };
     own.into_iter().flatten().chain(lists).collect()
 }
