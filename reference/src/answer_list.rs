@@ -5,31 +5,34 @@ use std::hash::Hash;
 
 use crate::fold::{Answer, fold};
 use crate::generate::case::Case;
-use crate::generate::damage::damaged;
+use crate::generate::damage::damaged_case;
 use crate::generate::exhaustive::{passed_files, small_files};
 use crate::generate::limits::limits;
 use crate::generate::nests::nests;
 use crate::generate::random_file::random_file;
 use crate::generate::refusals::refusals;
-use crate::random::Random;
+use crate::generate::shapes::shapes;
 use crate::record::{Node, RecordFile, kind};
 use crate::scripts::scripts;
 
 /// The seed of the random part.
 const SEED: u64 = 157;
-const RANDOM_FILES: usize = 140;
+const RANDOM_FILES: usize = 100;
 const DAMAGED_FILES: usize = 60;
 /// Random files longer than this are left out.
-const MOST_BYTES: usize = 420;
-/// Of the files with a flag that a node may not carry, one in so many is kept.
-const FLAGS_KEPT: usize = 3;
+const MOST_BYTES: usize = 400;
+/// Of a long table's refused files one in so many is kept.
+const REFUSED_KEPT: usize = 4;
+/// Of a long table's accepted files one in so many is kept.
+const ACCEPTED_KEPT: usize = 12;
 
 /// The list, in the order in which it is written.
 pub fn answer_cases() -> Vec<Case> {
     let mut cases = Vec::new();
     cases.extend(scripts().iter().map(|it| Case::of_records(it.text, &it.file)));
+    cases.extend(shapes().iter().map(|it| Case::of_records(it.text, &it.file)));
     cases.extend(refusal_cases());
-    cases.extend(limits().into_iter().filter(|case| !case.what.contains("tags over")));
+    cases.extend(limits().into_iter().filter(|case| !case.bulk));
     cases.extend(nests().iter().map(|(what, file)| Case::of_records(what, file)));
     cases.extend(small_cases());
     cases.extend(passed_cases());
@@ -87,13 +90,16 @@ fn searched_tree(file: &RecordFile) -> &[Node] {
     &file.nodes[behind..]
 }
 
-/// The refusals, the many files with a wrong flag thinned out.
+/// The refusals, the long tables thinned out.
 fn refusal_cases() -> Vec<Case> {
-    let mut flags = 0;
+    let (mut refused, mut accepted) = (0, 0);
     let kept = |case: &Case| {
-        let of_flags = case.what.contains("with bit");
-        flags += usize::from(of_flags);
-        !of_flags || flags % FLAGS_KEPT == 0
+        let (seen, step) = match case.expected {
+            Some(0) => (&mut accepted, ACCEPTED_KEPT),
+            _ => (&mut refused, REFUSED_KEPT),
+        };
+        *seen += usize::from(case.bulk);
+        !case.bulk || *seen % step == 0
     };
     refusals().into_iter().filter(kept).collect()
 }
@@ -170,16 +176,6 @@ fn random_cases() -> Vec<Case> {
 
 /// Damaged copies of short random files.
 fn damaged_cases() -> Vec<Case> {
-    let mut out = Vec::new();
-    for case in 0.. {
-        let file = random_file(SEED + 1, case, 6).to_bytes();
-        if file.len() <= MOST_BYTES / 2 {
-            let mut random = Random::new(SEED + 2, case);
-            out.push(Case::new("damaged", damaged(&mut random, &file)));
-        }
-        if out.len() == DAMAGED_FILES {
-            break;
-        }
-    }
-    out
+    let cases = (0..).map(|case| damaged_case(SEED + 1, case, 6));
+    cases.filter(|case| case.file.len() <= MOST_BYTES / 2).take(DAMAGED_FILES).collect()
 }

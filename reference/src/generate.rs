@@ -7,3 +7,4 @@ pub mod limits;
 pub mod nests;
 pub mod random_file;
 pub mod refusals;
+pub mod shapes;

@@ -1,12 +1,16 @@
 -- What is kept of each tree of a row while the nodes before it are checked: its root's kind, and whether it is loose.
 use Prim.Native.Nat.{ℕ, _+_, _*_, _/_, _%_}
-use mathlib.Core.Bool.{Bool, _&&_, _||_, not}
+use mathlib.Core.Bool.{Bool, false, _&&_, _||_, not}
 use mathlib.Core.List.{List, [], _∷_}
-use lib.ListN.{getD}
-use lib.Dec.{eqb}
+use lib.ListN.{length, getD, take, drop}
+use lib.Dec.{eqb, leb}
+use Rattle.records.specs.Flags.{optional}
+use Rattle.records.specs.Records.{everyFrom}
 use Rattle.records.specs.File.{one}
+use Rattle.records.specs.Node.{isLink}
 use Rattle.records.specs.Tree.{Node, Tree, Trees, none, more}
 use Rattle.records.specs.Place.{root, loose, isExpression, mayStand, mayBeLoose}
+use Rattle.records.specs.declared.layout.NodeRecord.{NodeRecord}
 
 unfoldable pub entry : ℕ → Bool → ℕ
 entry kind waits = 2 * kind + one waits
@@ -25,6 +29,23 @@ entryLoose e = eqb (e % 2) 1
 -- a child of this number under a parent of a kind and flags
 unfoldable pub childStands : ℕ → ℕ → ℕ → ℕ → Bool
 childStands parent flags i e = mayStand parent flags i (entryKind e) && (not (entryLoose e) || mayBeLoose parent i)
+
+-- whether the first of some entries is loose
+unfoldable pub firstLoose : List ℕ → Bool
+firstLoose [] = false
+firstLoose (e ∷ es) = entryLoose e
+
+-- a node before a row of entries: whether it finds its children there, and each where it may stand
+unfoldable pub childrenStand : NodeRecord → List ℕ → Bool
+childrenStand n es = leb (n .children) (length es) && everyFrom (childStands (n .kind) (n .flags)) 0 (take (n .children) es)
+
+-- the entry of a node before a row of entries
+unfoldable pub nodeEntry : NodeRecord → List ℕ → ℕ
+nodeEntry n es = entry (n .kind) (isLink (n .kind) && (optional (n .flags) || firstLoose (take (n .children) es)))
+
+-- the row once the node has taken its children
+unfoldable pub pushed : NodeRecord → List ℕ → List ℕ
+pushed n es = nodeEntry n es ∷ drop (n .children) es
 
 -- a statement's tree
 unfoldable pub rootStands : ℕ → Bool

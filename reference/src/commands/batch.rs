@@ -5,13 +5,12 @@ use std::io::Write;
 use crate::answers::write_entry;
 use crate::fold::fold;
 use crate::generate::case::Case;
-use crate::generate::damage::damaged;
+use crate::generate::damage::damaged_case;
 use crate::generate::exhaustive::{passed_files, small_files};
 use crate::generate::limits::limits;
 use crate::generate::nests::nests;
 use crate::generate::random_file::random_file;
 use crate::generate::refusals::refusals;
-use crate::random::Random;
 
 /// The names of the families, with their numbers.
 pub const FAMILIES: &str = "random SEED FIRST COUNT SIZE | damaged SEED FIRST COUNT SIZE | \
@@ -50,11 +49,4 @@ fn each_case(family: &str, numbers: &[u64], put: &mut dyn FnMut(Case)) -> Result
         _ => return Err(format!("a family is one of {FAMILIES}")),
     }
     Ok(())
-}
-
-/// A random file, damaged.
-pub fn damaged_case(seed: u64, case: u64, size: usize) -> Case {
-    let file = random_file(seed, case, size).to_bytes();
-    let mut random = Random::new(seed.wrapping_add(1), case);
-    Case::new("damaged", damaged(&mut random, &file))
 }

@@ -1,10 +1,9 @@
-//! The whole check: hand-made expectations, scripts, kept answers, and what must hold of every fold.
+//! The whole check: scripts, numbers worked out by hand, kept answers, and what must hold of every fold.
 
 use std::fs;
 use std::path::Path;
 use std::time::Instant;
 
-use super::batch::damaged_case;
 use super::write::{answers_path, script_paths};
 use crate::answer_list::answer_cases;
 use crate::answers::{entries, replay};
@@ -12,11 +11,14 @@ use crate::checks::{Finding, Totals, check_file};
 use crate::fold::fold;
 use crate::foldlist::foldlist;
 use crate::generate::case::Case;
+use crate::generate::damage::damaged_case;
 use crate::generate::exhaustive::{Emit, passed_files, small_files};
 use crate::generate::limits::limits;
 use crate::generate::nests::nests;
 use crate::generate::random_file::random_file;
 use crate::generate::refusals::refusals;
+use crate::generate::shapes::{Shape, shapes};
+use crate::origin::as_compared;
 use crate::scripts::{Script, scripts};
 
 /// How much is generated.
@@ -37,8 +39,10 @@ pub const SHORT: Amount =
 /// Prints what was compared. The number of differences.
 pub fn check_all(directory: &Path, amount: Amount) -> usize {
     let mut report = Report { differences: 0 };
+    report.part("carried functions", as_compared);
     report.part("scripts", || check_scripts(directory));
     report.part("expected numbers", check_expected);
+    report.part("shapes", check_shapes);
     report.part("kept answers", || check_answers(directory));
     check_generated(&mut report, amount);
     report.differences
@@ -90,7 +94,7 @@ fn check_script(directory: &Path, script: &Script) -> Result<(), String> {
     let room = Case::new("", file.clone()).room;
     let answer = fold(&file, room);
     demand(answer.number == 0, || format!("refused with {}", answer.number))?;
-    demand(answer.result == result, || format!("folded to {}", script.result_text))?;
+    demand(answer.result == result, || format!("doesn't fold to `{}`", script.result_text))?;
     demand(answer.folds == script.folds, || format!("{} folds", answer.folds))
 }
 
@@ -103,25 +107,32 @@ fn check_first_script(script: &Script) -> Result<(), String> {
     demand(lines == "fold 1 statements 1 nodes 3\ns 0 5 0 3\n", || format!("script 1: {lines}"))
 }
 
+fn hand_made() -> impl Iterator<Item = Case> {
+    refusals().into_iter().chain(limits())
+}
+
 /// The cases whose number was worked out by hand.
 fn check_expected() -> Result<String, String> {
-    let cases = [refusals(), limits()].concat_cases();
-    for case in &cases {
+    let mut count = 0;
+    for case in hand_made() {
         let number = fold(&case.file, case.room).number;
         let expected = case.expected.expect("these cases have one");
         demand(number == expected, || format!("{}: {number}, not {expected}", case.what))?;
+        count += 1;
     }
-    Ok(format!("{} files returned the numbers worked out by hand", cases.len()))
+    Ok(format!("{count} files returned the numbers worked out by hand"))
 }
 
-trait ConcatCases {
-    fn concat_cases(self) -> Vec<Case>;
-}
-
-impl ConcatCases for [Vec<Case>; 2] {
-    fn concat_cases(self) -> Vec<Case> {
-        self.into_iter().flatten().collect()
+/// The Rust folds the four shapes.
+fn check_shapes() -> Result<String, String> {
+    let shapes = shapes();
+    for Shape { letter, text, result_text, file } in &shapes {
+        let case = Case::of_records(*text, file);
+        let folds = fold(&case.file, case.room).folds;
+        demand(folds == 1, || format!("({letter}) `{text}` doesn't fold to `{result_text}`"))?;
     }
+    let letters: Vec<String> = shapes.iter().map(|shape| shape.letter.to_string()).collect();
+    Ok(format!("the Rust folds {}", letters.join(", ")))
 }
 
 /// The kept list is the one that is made anew, and it reads back.
@@ -135,8 +146,15 @@ fn check_answers(directory: &Path) -> Result<String, String> {
     Ok(format!("{count} entries, {} bytes, made anew byte for byte", kept.len()))
 }
 
+/// What `check_file` asks.
+const EACH_FILE: &str = "refused with nothing returned; or read and written back unchanged, folded \
+                         with facts, scopes, frames and options copied, a result of at most \
+                         length + 8 D bytes, at most (T + 2 D) 3000 looks and D folds, every \
+                         result accepted again in the same room, at most D + 2 runs until steady";
+
 /// Files that are made now, family by family.
 fn check_generated(report: &mut Report, amount: Amount) {
+    println!("each file below: {EACH_FILE}");
     let mut all = Totals::default();
     let mut family = |what: &str, run: &dyn Fn(&mut Family)| {
         report.part(what, || {
@@ -147,8 +165,7 @@ fn check_generated(report: &mut Report, amount: Amount) {
         });
     };
     family("hand-made files", &|family| {
-        let cases = [refusals(), limits()].concat_cases();
-        cases.iter().for_each(|case| family.check(case));
+        hand_made().for_each(|case| family.check(&case));
     });
     family("deep nests", &|family| {
         nests().iter().for_each(|(what, file)| family.check(&Case::of_records(what, file)));

@@ -1,5 +1,7 @@
 //! Damaged copies of a file.
 
+use super::case::Case;
+use super::random_file::random_file;
 use crate::random::Random;
 use crate::record::HEADER_BYTES;
 
@@ -10,8 +12,20 @@ const TELLING: &[u16] =
 /// The offsets of the header's counts, scopes and last number.
 const HEADER_NUMBERS: &[usize] = &[4, 6, 8, 10, 12, 14, 16, 18, 20, 22];
 
+/// A random file, damaged, now and then with too little room.
+pub fn damaged_case(seed: u64, case: u64, size: usize) -> Case {
+    let file = random_file(seed, case, size).to_bytes();
+    let mut random = Random::new(seed.wrapping_add(1), case);
+    if random.percent(5) {
+        let whole = Case::new("too little room", file);
+        let room = whole.room - random.between(1, 32);
+        return whole.in_room(room);
+    }
+    Case::new("damaged", damaged(&mut random, &file))
+}
+
 /// The file with one or two damages.
-pub fn damaged(random: &mut Random, file: &[u8]) -> Vec<u8> {
+fn damaged(random: &mut Random, file: &[u8]) -> Vec<u8> {
     let mut copy = file.to_vec();
     for _ in 0..random.pick(&[1, 1, 1, 2]) {
         damage(random, &mut copy);

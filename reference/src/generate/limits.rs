@@ -129,26 +129,49 @@ fn most_folds() -> Vec<Case> {
     vec![
         case(0, "255 folds within a declaration", &one_declaration(literals.clone())),
         case(0, "255 folds over statements", &in_statements(literals)),
-        case(0, "254 kept tags within a declaration", &one_declaration(tags.clone())),
-        case(0, "254 kept tags over statements", &in_statements(tags)),
+        case(0, "254 kept tags within a declaration", &one_declaration(tags.clone())).in_bulk(),
+        case(0, "254 kept tags over statements", &in_statements(tags.clone())).in_bulk(),
+        case(0, "254 kept tags, 3000 nodes", &filled_up(one_declaration(tags))),
         case(0, "many looks, folded", &many_looks(true)),
         case(0, "many looks, not folded", &many_looks(false)),
+        case(0, "many looks through a deep tree", &deep_looks()),
         case(0, "255 empty declarations", &empty_declarations()),
     ]
 }
 
-/// Literals behind a wide tree, searched for one after the other; as many nodes as a file may have.
-fn many_looks(folded: bool) -> RecordFile {
-    let mut items = vec![Tree::name(DECLARED); 1979];
-    if folded {
-        items.extend((0..DECLARED).map(Tree::name));
-    }
-    let declarators: Vec<_> = (0..DECLARED).map(|name| (name, Some(Tree::literal()))).collect();
+/// Literals, all searched for in one array with these items.
+fn literals_sought_in(items: Vec<Tree>) -> RecordFile {
+    let declarators = (0..DECLARED).map(|name| (name, Some(Tree::literal()))).collect();
     let lines = [
         Line::Declaration { kind: statement::CONST, declarators },
         Line::Expression(Tree::new(kind::ARRAY, items)),
     ];
     file_of(names(), &lines)
+}
+
+/// So many other names stand before the sought ones that the file has 3000 nodes.
+fn many_looks(folded: bool) -> RecordFile {
+    let mut items = vec![Tree::name(DECLARED); 1979];
+    if folded {
+        items.extend((0..DECLARED).map(Tree::name));
+    }
+    literals_sought_in(items)
+}
+
+/// As many nodes stand before the sought names, each below the other.
+fn deep_looks() -> RecordFile {
+    let mut deep = Tree::name(DECLARED);
+    for _ in 0..1978 {
+        deep = Tree::new(kind::UNARY, vec![deep]);
+    }
+    literals_sought_in(std::iter::once(deep).chain((0..DECLARED).map(Tree::name)).collect())
+}
+
+/// The file with one more statement, and then as many nodes as a file may have.
+fn filled_up(mut file: RecordFile) -> RecordFile {
+    let nodes = 3000 - 2 * file.declarators.len() - file.nodes.len();
+    push_line(&mut file, &wide_line(nodes));
+    file
 }
 
 /// One search drops them all.

@@ -8,7 +8,7 @@ mod order;
 mod script;
 mod trees;
 
-use super::case::Case;
+use super::case::{Case, MOST_ROOM};
 use crate::build::{
     Line, PLAIN_NAME, Tree, UNRESOLVED_NAME, declared_name, empty_file, file_of, push_line,
 };
@@ -69,11 +69,11 @@ impl Cases {
         self.0.push(Case::of_records(what, &file).expecting(number));
     }
 
-    /// The good file's bytes after a change, in more room than any file needs.
+    /// The good file's bytes after a change, in as much room as is ever offered.
     fn change_bytes(&mut self, number: u32, what: &str, change: impl FnOnce(&mut Vec<u8>)) {
         let mut file = good_file().to_bytes();
         change(&mut file);
-        self.0.push(Case::new(what, file).in_room(100_000).expecting(number));
+        self.0.push(Case::new(what, file).in_room(MOST_ROOM).expecting(number));
     }
 
     /// The good file with the header's number at this offset replaced.
@@ -84,6 +84,12 @@ impl Cases {
     /// A small file with one expression statement.
     fn tree(&mut self, number: u32, what: &str, tree: Tree) {
         self.changed_tree(number, what, tree, |_| ());
+    }
+
+    /// The same, as one of a long table.
+    fn bulk_tree(&mut self, number: u32, what: &str, tree: Tree) {
+        let file = file_of(unrecorded_names(), &[Line::Expression(tree)]);
+        self.0.push(Case::of_records(what, &file).expecting(number).in_bulk());
     }
 
     /// A small file with one expression statement, its nodes changed.
@@ -118,7 +124,7 @@ pub fn refusals() -> Vec<Case> {
     nodes::nodes_otherwise(&mut cases);
     nodes::properties(&mut cases);
     trees::unclosed_trees(&mut cases);
-    trees::misplaced_children(&mut cases);
+    trees::kinds_at_places(&mut cases);
     trees::optional_nodes(&mut cases);
     script::declared_twice(&mut cases);
     script::exceeded_counts(&mut cases);

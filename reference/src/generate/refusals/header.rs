@@ -2,7 +2,7 @@
 
 use super::{Cases, good_file, put};
 use crate::build::{Line, empty_file, push_line};
-use crate::generate::case::Case;
+use crate::generate::case::{Case, MOST_ROOM};
 
 /// Rows 1 and 2.
 pub fn letters_and_version(cases: &mut Cases) {
@@ -81,7 +81,7 @@ pub fn rooms(cases: &mut Cases) {
     let file = good_file().to_bytes();
     let enough = file.len() + 24;
     for (room, number) in
-        [(enough, 0), (enough + 1, 0), (enough - 1, 11), (file.len(), 11), (0, 11), (1 << 20, 0)]
+        [(enough, 0), (enough + 1, 0), (enough - 1, 11), (file.len(), 11), (0, 11), (MOST_ROOM, 0)]
     {
         let what = format!("room {room}");
         cases.0.push(Case::new(what, file.clone()).in_room(room).expecting(number));

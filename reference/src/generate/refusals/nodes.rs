@@ -36,7 +36,7 @@ pub fn tree_of_kind(of: u8) -> Tree {
 }
 
 /// The tree as an expression statement's, wrapped where its kind is no expression.
-fn as_expression(tree: Tree) -> Tree {
+pub fn as_expression(tree: Tree) -> Tree {
     match tree.kind {
         kind::SPREAD | kind::ELISION => Tree::new(kind::ARRAY, vec![tree]),
         kind::PROPERTY => Tree::new(kind::OBJECT, vec![tree]),
@@ -73,7 +73,7 @@ pub fn nodes_by_kind(cases: &mut Cases) {
             let own_row = is_about_another_row(of, flags);
             if good & flags == 0 && !own_row {
                 let tree = as_expression(tree_of_kind(of).flagged(flags));
-                cases.tree(7, &format!("kind {of} with bit {bit}"), tree);
+                cases.bulk_tree(7, &format!("kind {of} with bit {bit}"), tree);
             }
         }
         children_of_kind(cases, of);

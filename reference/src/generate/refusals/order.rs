@@ -1,7 +1,7 @@
 //! Files that are bad in two ways.
 
 use super::{Cases, PLAIN, WRITTEN, good_file, put};
-use crate::generate::case::Case;
+use crate::generate::case::{Case, MOST_ROOM};
 use crate::record::*;
 
 /// A fault of each row that leaves the other rows' faults possible.
@@ -37,7 +37,7 @@ pub fn bad_in_two_ways(cases: &mut Cases) {
             let mut file = records.to_bytes();
             fault_in_bytes(first, &mut file);
             fault_in_bytes(second, &mut file);
-            let room = if second == 11 { 0 } else { 100_000 };
+            let room = if second == 11 { 0 } else { MOST_ROOM };
             let what = format!("rows {first} and {second}");
             cases.0.push(Case::new(what, file).in_room(room).expecting(first));
         }

@@ -1,7 +1,7 @@
-//! Row 8: trees that do not close, and children where their kind cannot stand.
+//! Row 8: trees that don't close, and children where their kind can't stand.
 
-use super::nodes::tree_of_kind;
-use super::{Cases, MUTATED, PLAIN, UNRESOLVED, assign, call};
+use super::nodes::{as_expression, tree_of_kind};
+use super::{Cases, PLAIN, assign, call};
 use crate::build::Tree;
 use crate::record::*;
 
@@ -24,61 +24,76 @@ pub fn unclosed_trees(cases: &mut Cases) {
     }
 }
 
-/// Row 8: a child where its kind can't stand.
-pub fn misplaced_children(cases: &mut Cases) {
-    let spread = || Tree::new(kind::SPREAD, vec![Tree::literal()]);
-    let property = || Tree::new(kind::PROPERTY, vec![Tree::literal()]);
-    let elision = || Tree::leaf(kind::ELISION);
-    let target = || Tree::leaf(kind::TARGET_NAME).labelled(UNRESOLVED);
-    let opaque = || Tree::leaf(kind::OPAQUE_TARGET);
+/// What may stand at a place.
+#[derive(Clone, Copy)]
+enum Takes {
+    Expressions,
+    Arguments,
+    Items,
+    /// These kinds alone.
+    Only(&'static [u8]),
+}
+
+impl Takes {
+    fn takes(self, of: u8) -> bool {
+        let expression = of <= 24 || of == 28;
+        match self {
+            Self::Expressions => expression,
+            Self::Arguments => expression || of == 25,
+            Self::Items => expression || of == 25 || of == 27,
+            Self::Only(kinds) => kinds.contains(&of),
+        }
+    }
+}
+
+/// A tree, the number of one of its children, and what may stand there.
+type Place = (Tree, usize, Takes);
+
+fn places() -> Vec<Place> {
     let e = Tree::literal;
-    for (what, child) in [
-        ("spread", spread()),
-        ("property", property()),
-        ("elision", elision()),
-        ("target", target()),
-        ("opaque target", opaque()),
-    ] {
-        cases.tree(8, &format!("{what} as a statement"), child.clone());
-        for of in [kind::UNARY, kind::TAGGED_TEMPLATE, kind::CALL, kind::NEW, kind::TEMPLATE] {
-            let tree = Tree::new(of, vec![child.clone()]);
-            cases.tree(8, &format!("{what} first in kind {of}"), tree);
+    let two = |of: u8| Tree::new(of, vec![e(), e()]);
+    let property =
+        |flags: u8, children: usize| Tree::new(kind::PROPERTY, vec![e(); children]).flagged(flags);
+    let mut out = vec![
+        (tree_of_kind(kind::CHAIN), 0, Takes::Only(&[10, 11, 12, 14])),
+        (tree_of_kind(kind::ASSIGNMENT), 0, Takes::Only(&[10, 11, 12, 29, 30])),
+        (tree_of_kind(kind::ASSIGNMENT), 1, Takes::Expressions),
+        (two(kind::CALL), 1, Takes::Arguments),
+        (two(kind::NEW), 1, Takes::Arguments),
+        (two(kind::ARRAY), 1, Takes::Items),
+        (Tree::new(kind::OBJECT, vec![e()]), 0, Takes::Only(&[25, 26])),
+        (tree_of_kind(kind::SPREAD), 0, Takes::Expressions),
+        (property(flag::SHORTHAND, 1), 0, Takes::Only(&[4])),
+        (property(0, 1), 0, Takes::Expressions),
+        (property(flag::COMPUTED, 2), 0, Takes::Expressions),
+        (property(flag::COMPUTED, 2), 1, Takes::Expressions),
+        (property(flag::COMPUTED | flag::PROTO, 1), 0, Takes::Expressions),
+    ];
+    for of in [6, 7, 8, 9, 10, 11, 12, 14, 15, 16, 17, 18, 19, 23, 24, 28] {
+        let parent = tree_of_kind(of);
+        let count = parent.children.len();
+        out.extend((0..count).map(|child| (parent.clone(), child, Takes::Expressions)));
+    }
+    out.push((two(kind::TAGGED_TEMPLATE), 1, Takes::Expressions));
+    out.push((two(kind::TEMPLATE), 1, Takes::Expressions));
+    out
+}
+
+/// Row 8: every kind as a statement's tree, and at every place.
+pub fn kinds_at_places(cases: &mut Cases) {
+    for of in 0..=kind::OPAQUE_TARGET {
+        let number = if Takes::Expressions.takes(of) { 0 } else { 8 };
+        cases.tree(number, &format!("kind {of} as a statement"), tree_of_kind(of));
+    }
+    for (parent, child, takes) in places() {
+        for of in 0..=kind::OPAQUE_TARGET {
+            let mut tree = parent.clone();
+            tree.children[child] = tree_of_kind(of);
+            let number = if takes.takes(of) { 0 } else { 8 };
+            let what = format!("kind {of} as child {child} of kind {}", parent.kind);
+            cases.bulk_tree(number, &what, as_expression(tree));
         }
-        for of in [kind::TAGGED_TEMPLATE, kind::SEQUENCE, kind::BINARY, kind::COMPUTED_MEMBER] {
-            let tree = Tree::new(of, vec![e(), child.clone()]);
-            cases.tree(8, &format!("{what} second in kind {of}"), tree);
-        }
-        cases.tree(
-            8,
-            &format!("{what} as a value"),
-            Tree::new(kind::ASSIGNMENT, vec![opaque(), child.clone()]),
-        );
-        cases.tree(
-            8,
-            &format!("{what} in a spread"),
-            call(vec![Tree::new(kind::SPREAD, vec![child])]),
-        );
     }
-    for (what, child) in [("property", property()), ("elision", elision()), ("target", target())] {
-        cases.tree(8, &format!("{what} as an argument"), call(vec![child]));
-    }
-    for child in [property(), opaque()] {
-        cases.tree(8, "misplaced in an array", Tree::new(kind::ARRAY, vec![child]));
-    }
-    for child in [e(), elision(), target(), Tree::name(PLAIN)] {
-        cases.tree(8, "misplaced in an object", Tree::new(kind::OBJECT, vec![child]));
-    }
-    for child in [e(), Tree::name(MUTATED), spread(), Tree::leaf(kind::THIS), call(vec![])] {
-        cases.tree(8, "misplaced as a target", assign(0, child));
-    }
-    let chain = |child: Tree| Tree::new(kind::CHAIN, vec![child]);
-    for child in [e(), Tree::name(PLAIN), Tree::new(kind::NEW, vec![e()]), chain(call(vec![]))] {
-        cases.tree(8, "misplaced in a chain", chain(child));
-    }
-    cases.tree(8, "a chain as a target", assign(0, chain(call(vec![]))));
-    cases.tree(0, "a spread as an argument", call(vec![spread()]));
-    cases.tree(0, "a spread in an array", Tree::new(kind::ARRAY, vec![spread(), elision()]));
-    cases.tree(0, "a spread in an object", Tree::new(kind::OBJECT, vec![spread(), property()]));
 }
 
 /// Row 8: where an optional node can stand.
