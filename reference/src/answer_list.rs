@@ -7,6 +7,7 @@ use crate::fold::{Answer, fold};
 use crate::generate::case::Case;
 use crate::generate::damage::damaged_case;
 use crate::generate::exhaustive::{passed_files, small_files};
+use crate::generate::facts::facts;
 use crate::generate::limits::limits;
 use crate::generate::nests::nests;
 use crate::generate::random_file::random_file;
@@ -26,6 +27,9 @@ const REFUSED_KEPT: usize = 4;
 /// Of a long table's accepted files one in so many is kept.
 const ACCEPTED_KEPT: usize = 12;
 
+/// Of the files with several facts changed one in so many is kept.
+const FACTS_KEPT: usize = 2503;
+
 /// The list, in the order in which it is written.
 pub fn answer_cases() -> Vec<Case> {
     let mut cases = Vec::new();
@@ -34,6 +38,7 @@ pub fn answer_cases() -> Vec<Case> {
     cases.extend(refusal_cases());
     cases.extend(limits().into_iter().filter(|case| !case.bulk));
     cases.extend(nests().iter().map(|(what, file)| Case::of_records(what, file)));
+    cases.extend(fact_cases());
     cases.extend(small_cases());
     cases.extend(passed_cases());
     cases.extend(random_cases());
@@ -104,6 +109,19 @@ fn refusal_cases() -> Vec<Case> {
     refusals().into_iter().filter(kept).collect()
 }
 
+/// The near misses, and some of the others.
+fn fact_cases() -> Vec<Case> {
+    let mut number = 0;
+    let mut out = Vec::new();
+    facts(&mut |case| {
+        number += 1;
+        if !case.bulk || number % FACTS_KEPT == 0 {
+            out.push(case);
+        }
+    });
+    out
+}
+
 /// The kind above the name and which child the name is; nothing if the tree doesn't hold it below its
 /// root.
 fn place_of_name(tree: &[Node]) -> Option<(u8, u16)> {
@@ -123,12 +141,14 @@ fn place_of_name(tree: &[Node]) -> Option<(u8, u16)> {
     None
 }
 
-/// Literal and function count as one, and so do the names without effect.
-fn initializer_sort(number: usize) -> usize {
-    match number {
-        0 | 1 => 0,
-        2 | 3 => 2,
-        _ => number,
+/// Literal and function count as one, and so do the names without effect. Members and chains tell only
+/// directly below calls and tags.
+fn initializer_sort(number: usize, place: Option<(u8, u16)>) -> Option<usize> {
+    match (number, place) {
+        (0 | 1, _) => Some(0),
+        (2 | 3, _) => Some(2),
+        (4, _) | (_, Some((kind::CALL | kind::NEW | kind::TAGGED_TEMPLATE, _))) => Some(number),
+        _ => None,
     }
 }
 
@@ -137,8 +157,9 @@ fn small_cases() -> Vec<Case> {
     let mut first = FirstOfEach::new();
     small_files(3, &mut |initializer, file| {
         let place = place_of_name(searched_tree(&file));
-        let sort = (initializer_sort(initializer), place);
-        first.offer(sort, Case::of_records("a small tree", &file));
+        if let Some(sort) = initializer_sort(initializer, place) {
+            first.offer((sort, place), Case::of_records("a small tree", &file));
+        }
     });
     first.cases
 }

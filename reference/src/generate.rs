@@ -3,6 +3,7 @@
 pub mod case;
 pub mod damage;
 pub mod exhaustive;
+pub mod facts;
 pub mod limits;
 pub mod nests;
 pub mod random_file;

@@ -25,23 +25,21 @@ unfoldable pub nameRead : Node → Trees → ℕ
 nameRead n kids =
     cond (eqb (n .kind) 4) (n .label) (cond (eqb (n .kind) 20 && compound (n .flags)) (firstTarget kids) noNumber)
 
--- how often a name is read in trees
+-- how often trees name a name, where each node names the one that `named` gives
 unfoldable mutual
-  pub readsIn : ℕ → Tree → ℕ
-  readsIn name (node n kids) = one (eqb (nameRead n kids) name) + readsOf name kids
+  pub usesIn : (Node → Trees → ℕ) → ℕ → Tree → ℕ
+  usesIn named name (node n kids) = one (eqb (named n kids) name) + usesOf named name kids
 
-  pub readsOf : ℕ → Trees → ℕ
-  readsOf name none = 0
-  readsOf name (more t ts) = readsIn name t + readsOf name ts
+  pub usesOf : (Node → Trees → ℕ) → ℕ → Trees → ℕ
+  usesOf named name none = 0
+  usesOf named name (more t ts) = usesIn named name t + usesOf named name ts
 
--- how often a name is a target in trees
-unfoldable mutual
-  pub targetsIn : ℕ → Tree → ℕ
-  targetsIn name (node n kids) = one (eqb (targetName n) name) + targetsOf name kids
+-- how often trees read a name, and how often it is a target in them
+abbrev pub readsOf : ℕ → Trees → ℕ
+readsOf name ts = usesOf nameRead name ts
 
-  pub targetsOf : ℕ → Trees → ℕ
-  targetsOf name none = 0
-  targetsOf name (more t ts) = targetsIn name t + targetsOf name ts
+abbrev pub targetsOf : ℕ → Trees → ℕ
+targetsOf name ts = usesOf (λ n kids. targetName n) name ts
 
 -- A recorded name has no more reads and targets than its facts say; a resolved one without record is no target, unless
 -- bit 6 says that it is mutated.

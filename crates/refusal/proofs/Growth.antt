@@ -4,15 +4,14 @@ use mathlib.Core.Bool.{Bool, true, _&&_}
 use mathlib.Core.List.{List, [], _∷_}
 use Prim.Native.Nat.{ℕ, _+_, _-_, _*_, _≤_, _<_, min}
 use native.Mathlib.Omega.{arith}
-use native.Mathlib.Nat.{mul-add, mul-one, mul-zero, add-zero, sub-zero, add-assoc}
 use lib.ListN.{length, drop, set, length-set}
 use lib.Seq.{drop-length, drop-drop}
 use Rattle.records.specs.Records.{recordsFrom}
 use Rattle.records.specs.Tree.{Trees, grown, rowOf, closed}
 use Rattle.records.specs.Place.{allPlaced}
 use Rattle.records.specs.declared.layout.NodeRecord.{NodeRecord}
-use Rattle.records.proofs.Series.{next-record, no-record}
 use Rattle.refusal.specs.Stack.{entries, childrenStand, nodeEntry, pushed}
+use Rattle.refusal.proofs.Behind.{one-more, all-left}
 use Rattle.refusal.proofs.Rows.{entries-grown, grown-good}
 use Rattle.refusal.proofs.Stacks.{found, drop-found, laid}
 
@@ -32,15 +31,6 @@ unfolding pushed
 pushed-stack n stack top t e h ee et =
     laid stack t e h
     ∙ rw (et, ee, ← drop-drop (min (n .children) (length stack - top)) top stack, found stack (n .children) top, drop-found (n .children) (drop top stack))
-
--- the records with one more in front
-one-more : (readAt : ℕ → NodeRecord) (len n from i j : ℕ) → i ≡ j + 1 → i ≤ n
-    → recordsFrom readAt len (n - j) (from + len * j) ≡ readAt (from + len * j) ∷ recordsFrom readAt len (n - i) (from + len * i)
-one-more readAt len n from i j e h = next-record readAt len n j (from + len * j) (omega arith) ∙ rw (e, mul-add, mul-one, add-assoc)
-
--- all of them, when none is left to take
-all-left : (readAt : ℕ → NodeRecord) (len n from i : ℕ) → i ≤ 0 → recordsFrom readAt len (n - i) (from + len * i) ≡ recordsFrom readAt len n from
-all-left readAt len n from i h = let e : i ≡ 0 = omega arith in rw (e, mul-zero, add-zero, sub-zero)
 
 module _ {readAt : ℕ → NodeRecord} {len n from : ℕ} {stack₀ : List ℕ} where
   pub growing-none : (m : ℕ) → m ≡ length stack₀ → Growing readAt len n from stack₀ stack₀ true m n

@@ -1,2 +1,3 @@
 -- What the checks of whole trees keep beside a file.
 pub mod Stack
+pub mod Tally

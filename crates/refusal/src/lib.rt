@@ -1,3 +1,5 @@
 // The refusal table over a whole file: its trees, the counts of its names, and the public call.
+pub mod count;
+pub mod declared;
 pub mod place;
 pub mod tree;

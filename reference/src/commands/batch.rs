@@ -7,6 +7,7 @@ use crate::fold::fold;
 use crate::generate::case::Case;
 use crate::generate::damage::damaged_case;
 use crate::generate::exhaustive::{passed_files, small_files};
+use crate::generate::facts::facts;
 use crate::generate::limits::limits;
 use crate::generate::nests::nests;
 use crate::generate::random_file::random_file;
@@ -14,7 +15,7 @@ use crate::generate::refusals::refusals;
 
 /// The names of the families, with their numbers.
 pub const FAMILIES: &str = "random SEED FIRST COUNT SIZE | damaged SEED FIRST COUNT SIZE | \
-                            small NODES | passed NODES | nests | limits | refusals";
+                            small NODES | passed NODES | facts | nests | limits | refusals";
 
 /// Writes the entries of a family to the output.
 pub fn batch(family: &str, numbers: &[u64], out: &mut dyn Write) -> Result<(), String> {
@@ -44,6 +45,7 @@ fn each_case(family: &str, numbers: &[u64], put: &mut dyn FnMut(Case)) -> Result
         ("nests", []) => {
             nests().iter().for_each(|(what, file)| put(Case::of_records(what, file)));
         }
+        ("facts", []) => facts(put),
         ("limits", []) => limits().into_iter().for_each(put),
         ("refusals", []) => refusals().into_iter().for_each(put),
         _ => return Err(format!("a family is one of {FAMILIES}")),

@@ -13,6 +13,7 @@ use crate::foldlist::foldlist;
 use crate::generate::case::Case;
 use crate::generate::damage::damaged_case;
 use crate::generate::exhaustive::{Emit, passed_files, small_files};
+use crate::generate::facts::facts;
 use crate::generate::limits::limits;
 use crate::generate::nests::nests;
 use crate::generate::random_file::random_file;
@@ -176,6 +177,7 @@ fn check_generated(report: &mut Report, amount: Amount) {
     family("passed trees", &|family| {
         family.check_each(|emit| passed_files(amount.passed_nodes, emit));
     });
+    family("facts", &|family| facts(&mut |case| family.check(&case)));
     family("random files", &|family| {
         for case in 0..amount.random {
             let file = random_file(amount.seed, case, size_of(case));

@@ -1,0 +1,52 @@
+-- A test of every record, whatever their numbers. Assumes nothing.
+use mathlib.Core.Path.{_≡_, refl, sym, ap, ap₂, _∙_}
+use mathlib.Core.Bool.{Bool, true, false, _&&_, _||_, and-assoc, true≢false, false≢true}
+use mathlib.Core.List.{List, [], _∷_, _++_}
+use Prim.Native.Nat.{ℕ, _+_}
+use lib.ListN.{take, drop, take-append-drop}
+use Rattle.records.specs.Records.{every, everyFrom}
+
+-- both of two tests that hold together
+pub both : (a b : Bool) → (a && b) ≡ true → (a ≡ true) × (b ≡ true)
+both true b h = (refl, h)
+both false b h = absurd (false≢true h)
+
+pub all-three : (a b c : Bool) → (a && b && c) ≡ true → (a ≡ true) × (b ≡ true) × (c ≡ true)
+all-three a b c h = let p = both (a && b) c h in let q = both a b (p .0) in (q .0, q .1, p .1)
+
+-- neither of two tests of which none holds
+pub neither : (a b : Bool) → (a || b) ≡ false → (a ≡ false) × (b ≡ false)
+neither true b h = absurd (true≢false h)
+neither false b h = (refl, h)
+
+module _ {A : Type 0} (good : A → Bool) where
+  -- a test of each record by itself doesn't see its number
+  pub every-from : (i j : ℕ) (xs : List A) → everyFrom (λ n. good) i xs ≡ everyFrom (λ n. good) j xs
+  unfolding everyFrom
+  every-from i j [] = refl
+  every-from i j (x ∷ xs) = ap (λ (b : Bool). good x && b) (every-from (i + 1) (j + 1) xs)
+
+  pub every-cons : (x : A) (xs : List A) → every good (x ∷ xs) ≡ (good x && every good xs)
+  unfolding everyFrom
+  every-cons x xs = ap (λ (b : Bool). good x && b) (every-from 1 0 xs)
+
+  -- the first and the others
+  pub every-parts : (x : A) (xs : List A) → every good (x ∷ xs) ≡ true → (good x ≡ true) × (every good xs ≡ true)
+  every-parts x xs h = both (good x) (every good xs) (sym (every-cons x xs) ∙ h)
+
+  pub every-append : (xs ys : List A) → every good (xs ++ ys) ≡ (every good xs && every good ys)
+  unfolding everyFrom
+  every-append [] ys = refl
+  every-append (x ∷ xs) ys = rw (every-cons x (xs ++ ys), every-cons x xs, every-append xs ys, and-assoc)
+
+  -- some of the first, and those behind them
+  pub every-cut : (k : ℕ) (xs : List A) → every good xs ≡ true → (every good (take k xs) ≡ true) × (every good (drop k xs) ≡ true)
+  every-cut k xs h = both (every good (take k xs)) (every good (drop k xs)) (sym (every-append (take k xs) (drop k xs)) ∙ ap (every good) (take-append-drop k xs) ∙ h)
+
+-- a weaker test
+pub every-weaker : {A : Type 0} (good fair : A → Bool) → ((x : A) → good x ≡ true → fair x ≡ true) → (xs : List A) → every good xs ≡ true → every fair xs ≡ true
+unfolding everyFrom
+every-weaker good fair w [] h = refl
+every-weaker good fair w (x ∷ xs) h =
+    let p = every-parts good x xs h in
+    every-cons fair x xs ∙ ap₂ _&&_ (w x (p .0)) (every-weaker good fair w xs (p .1))

@@ -1,0 +1,105 @@
+-- Trees and the preorder of their records. Assumes nothing.
+use mathlib.Core.Path.{_≡_, refl, sym, ap, ap₂, _∙_}
+use mathlib.Core.Bool.{Bool, true, false, _&&_}
+use mathlib.Core.List.{List, [], _∷_, _++_, append-nil}
+use Prim.Native.Nat.{ℕ, zero, suc, _+_, _-_, _≤_}
+use native.Mathlib.Nat.{zero-add, suc-add}
+use native.Mathlib.Omega.{arith}
+use lib.ListN.{length}
+use lib.Dec.{eqb, leb}
+use borrow.Author.Tests.{leb-true, le-leb, eqb-true}
+use Rattle.records.specs.Records.{every, everyFrom}
+use Rattle.records.specs.Tree.{Node, Tree, Trees, node, none, more, count, size, sizes, joined, firsts, others, recordOf, nodeOf, preorder, preorders, grown, rowOf, closed}
+use Rattle.records.specs.declared.layout.NodeRecord.{NodeRecord}
+use Rattle.roundtrip.proofs.Every.{both, every-cons, every-parts}
+use Rattle.roundtrip.proofs.Rows.{count-joined, sizes-joined, joined-none, joined-joined, firsts-joined, others-joined, joined-cut, count-firsts, sizes-cut}
+
+-- the records of two rows joined
+pub preorders-joined : (ts us : Trees) (rest : List NodeRecord) → preorders (joined ts us) rest ≡ preorders ts (preorders us rest)
+unfolding joined preorders
+preorders-joined none us rest = refl
+preorders-joined (more t ts) us rest = ap (preorder t) (preorders-joined ts us rest)
+
+-- a record for each node
+mutual
+  unfolding preorder preorders size sizes
+
+  pub preorder-length : (t : Tree) (rest : List NodeRecord) → length (preorder t rest) ≡ size t + length rest
+  preorder-length (node n kids) rest = omega (arith, preorders-length kids rest)
+
+  pub preorders-length : (ts : Trees) (rest : List NodeRecord) → length (preorders ts rest) ≡ sizes ts + length rest
+  preorders-length none rest = omega arith
+  preorders-length (more t ts) rest = omega (arith, preorder-length t (preorders ts rest), preorders-length ts rest)
+
+-- what stands behind the records stays behind them
+mutual
+  unfolding preorder preorders
+
+  pub preorder-append : (t : Tree) (rs rest : List NodeRecord) → preorder t (rs ++ rest) ≡ preorder t rs ++ rest
+  preorder-append (node n kids) rs rest = ap (λ (qs : List NodeRecord). recordOf n (count kids) ∷ qs) (preorders-append kids rs rest)
+
+  pub preorders-append : (ts : Trees) (rs rest : List NodeRecord) → preorders ts (rs ++ rest) ≡ preorders ts rs ++ rest
+  preorders-append none rs rest = refl
+  preorders-append (more t ts) rs rest = ap (preorder t) (preorders-append ts rs rest) ∙ preorder-append t (preorders ts rs) rest
+
+-- From trees to records and back: the row of the records is the trees, before the row of what follows.
+mutual
+  unfolding preorder preorders rowOf grown joined recordOf nodeOf
+
+  pub rowOf-preorder : (t : Tree) (rest : List NodeRecord) → rowOf (preorder t rest) ≡ more t (rowOf rest)
+  rowOf-preorder (node n kids) rest = rw (rowOf-preorders kids rest, firsts-joined kids (rowOf rest), others-joined kids (rowOf rest))
+
+  pub rowOf-preorders : (ts : Trees) (rest : List NodeRecord) → rowOf (preorders ts rest) ≡ joined ts (rowOf rest)
+  rowOf-preorders none rest = refl
+  rowOf-preorders (more t ts) rest = rowOf-preorder t (preorders ts rest) ∙ ap (more t) (rowOf-preorders ts rest)
+
+pub rowOf-preorders-alone : (ts : Trees) → rowOf (preorders ts []) ≡ ts
+unfolding rowOf
+rowOf-preorders-alone ts = rowOf-preorders ts [] ∙ joined-none ts
+
+-- the records of trees close
+mutual
+  unfolding preorder preorders closed recordOf
+
+  pub closed-preorder : (t : Tree) (rest : List NodeRecord) → closed (preorder t rest) ≡ closed rest
+  closed-preorder (node n kids) rest =
+      rw (rowOf-preorders kids rest, count-joined kids (rowOf rest), le-leb (count kids) (count kids + count (rowOf rest)) (omega arith)) (closed-preorders kids rest)
+
+  pub closed-preorders : (ts : Trees) (rest : List NodeRecord) → closed (preorders ts rest) ≡ closed rest
+  closed-preorders none rest = refl
+  closed-preorders (more t ts) rest = closed-preorder t (preorders ts rest) ∙ closed-preorders ts rest
+
+-- their zero field is zero
+abbrev pub zeroed : NodeRecord → Bool
+zeroed r = eqb (r .zero) 0
+
+mutual
+  unfolding preorder preorders recordOf
+
+  pub zeroed-preorder : (t : Tree) (rest : List NodeRecord) → every zeroed (preorder t rest) ≡ every zeroed rest
+  zeroed-preorder (node n kids) rest = every-cons zeroed (recordOf n (count kids)) (preorders kids rest) ∙ zeroed-preorders kids rest
+
+  pub zeroed-preorders : (ts : Trees) (rest : List NodeRecord) → every zeroed (preorders ts rest) ≡ every zeroed rest
+  zeroed-preorders none rest = refl
+  zeroed-preorders (more t ts) rest = zeroed-preorder t (preorders ts rest) ∙ zeroed-preorders ts rest
+
+-- every record is a node, whether the records close or not
+pub sizes-rowOf : (rs : List NodeRecord) → sizes (rowOf rs) ≡ length rs
+unfolding rowOf grown sizes size
+sizes-rowOf [] = refl
+sizes-rowOf (r ∷ rs) = omega (arith, sizes-rowOf rs, sizes-cut (r .children) (rowOf rs))
+
+-- From records to trees and back
+pub preorders-rowOf : (rs rest : List NodeRecord) → closed rs ≡ true → every zeroed rs ≡ true → preorders (rowOf rs) rest ≡ rs ++ rest
+unfolding rowOf grown preorders preorder closed recordOf nodeOf
+preorders-rowOf [] rest c z = refl
+preorders-rowOf (r ∷ rs) rest c z =
+    let c′ = both (leb (r .children) (count (rowOf rs))) (closed rs) c in
+    let z′ = every-parts zeroed r rs z in
+    let k : count (firsts (r .children) (rowOf rs)) ≡ r .children = count-firsts (r .children) (rowOf rs) (leb-true _ _ (c′ .0)) in
+    let e : r .zero ≡ 0 = eqb-true (r .zero) 0 (z′ .0) in
+    let same : preorders (firsts (r .children) (rowOf rs)) (preorders (others (r .children) (rowOf rs)) rest) ≡ rs ++ rest =
+    sym (preorders-joined (firsts (r .children) (rowOf rs)) (others (r .children) (rowOf rs)) rest)
+    ∙ ap (λ (ts : Trees). preorders ts rest) (joined-cut (r .children) (rowOf rs))
+    ∙ preorders-rowOf rs rest (c′ .1) (z′ .1) in
+    λ i. record { kind = r .kind; flags = r .flags; label = r .label; children = k i; zero = sym e i; position = r .position } ∷ same i
