@@ -6,3 +6,4 @@ pub mod Growth
 pub mod Uses
 pub mod Tallies
 pub mod Counting
+pub mod Declaring

@@ -1,5 +1,5 @@
 -- What an accepted file is: no row of the refusal table holds. Assumes nothing.
-use mathlib.Core.Path.{_≡_, refl, sym, ap, _∙_}
+use mathlib.Core.Path.{_≡_, refl}
 use mathlib.Core.Bool.{Bool, true, false, cond, _&&_}
 use mathlib.Core.List.{List, [], _∷_}
 use Prim.Native.Nat.{ℕ, zero, suc, _+_, _≤_}
@@ -19,7 +19,7 @@ use Rattle.records.specs.Node.{goodNode, badNodes}
 use Rattle.records.specs.Place.{rootsStand, allPlaced, expressions, badTrees}
 use Rattle.records.specs.Count.{badCounts}
 use Rattle.records.specs.Refusal.{refusal, roomWanted}
-use Rattle.roundtrip.proofs.Every.{both, all-three, neither}
+use Rattle.roundtrip.proofs.Tests.{both, all-three, neither}
 
 pub record Accepted (bs : List ℕ) (room : ℕ) : Type 0 where
   pub isScript : notAScript bs ≡ false

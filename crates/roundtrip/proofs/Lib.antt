@@ -1,12 +1,14 @@
--- The round trip laws of the record file.
-pub mod Every
+-- The round trip laws of the record file: `RoundTrip` has what the others lead to.
+pub mod Tests
 pub mod Rows
 pub mod Preorder
 pub mod Numbers
 pub mod Series
 pub mod Formats
-pub mod Statements
 pub mod Accepted
-pub mod Printed
-pub mod Parts
+pub mod PrintedStatements
+pub mod ReadStatements
+pub mod PrintedFile
+pub mod PrintedTests
+pub mod ReadFile
 pub mod RoundTrip

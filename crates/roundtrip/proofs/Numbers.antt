@@ -1,11 +1,11 @@
 -- Numbers of two and four bytes, from bytes and to them. Assumes nothing.
-use mathlib.Core.Path.{_≡_, refl, sym, ap, ap₂, _∙_}
-use mathlib.Core.List.{List, [], _∷_, _++_}
-use Prim.Native.Nat.{ℕ, zero, suc, _+_, _*_, _/_, _%_, _≤_, _<_}
-use native.Mathlib.Nat.{add-assoc, add-zero, add-suc, suc-add}
+use mathlib.Core.Path.{_≡_, ap}
+use mathlib.Core.List.{List, [], _∷_}
+use Prim.Native.Nat.{ℕ, _+_, _*_, _/_, _%_, _<_}
+use native.Mathlib.Nat.{add-assoc}
 use native.Mathlib.Omega.{arith}
-use lib.ListN.{length, getD, drop}
-use lib.Seq.{getD-drop, drop-cons}
+use lib.ListN.{getD, drop}
+use lib.Seq.{getD-drop}
 use Rattle.records.specs.Bytes.{u16At, u32At, u16Bytes, u32Bytes, Bytes}
 
 -- the bytes from a place on
@@ -28,33 +28,31 @@ u16-whole n = omega arith
 pub u32-whole : (n : ℕ) → n % 256 + 256 * (n / 256 % 256) + 65536 * (n / 65536 % 256 + 256 * (n / 16777216)) ≡ n
 u32-whole n = omega arith
 
--- the bytes of what is read of bytes, the lowest first
+-- a number read of bytes fits
+pub u16-fits : (bs : List ℕ) → Bytes bs → (i : ℕ) → u16At bs i < 65536
+unfolding u16At
+u16-fits bs small i = omega (arith, small i, small (i + 1))
+
+-- the bytes of a number that was read of bytes
 module _ (bs : List ℕ) (small : Bytes bs) (i : ℕ) where
-  pub u16-small : u16At bs i < 65536
+  low : u16At bs i % 256 ≡ getD bs i 0
   unfolding u16At
-  u16-small = omega (arith, small i, small (i + 1))
+  low = omega (arith, small i)
 
-  pub u16-byte0 : u16At bs i % 256 ≡ getD bs i 0
+  high : u16At bs i / 256 ≡ getD bs (i + 1) 0
   unfolding u16At
-  u16-byte0 = omega (arith, small i)
+  high = omega (arith, small i)
 
-  pub u16-byte1 : u16At bs i / 256 ≡ getD bs (i + 1) 0
-  unfolding u16At
-  u16-byte1 = omega (arith, small i)
+  pub u16-again : u16Bytes (u16At bs i) ≡ getD bs i 0 ∷ getD bs (i + 1) 0 ∷ []
+  u16-again = λ k. low k ∷ high k ∷ []
 
-module _ (bs : List ℕ) (small : Bytes bs) (i : ℕ) where
-  pub u32-byte0 : u32At bs i % 256 ≡ getD bs i 0
-  unfolding u32At
-  u32-byte0 = omega (arith, u16-byte0 bs small i)
-
-  pub u32-byte1 : u32At bs i / 256 % 256 ≡ getD bs (i + 1) 0
-  unfolding u32At
-  u32-byte1 = omega (arith, u16-byte1 bs small i, small (i + 1))
-
-  pub u32-byte2 : u32At bs i / 65536 % 256 ≡ getD bs (i + 2) 0
-  unfolding u32At
-  u32-byte2 = omega (arith, u16-small bs small i, u16-byte0 bs small (i + 2))
-
-  pub u32-byte3 : u32At bs i / 16777216 ≡ getD bs (i + 3) 0
-  unfolding u32At
-  u32-byte3 = omega (arith, u16-small bs small i, u16-byte1 bs small (i + 2), ap (λ (k : ℕ). getD bs k 0) (add-assoc i 2 1))
+pub u32-again : (bs : List ℕ) → Bytes bs → (i : ℕ) → u32Bytes (u32At bs i) ≡ getD bs i 0 ∷ getD bs (i + 1) 0 ∷ getD bs (i + 2) 0 ∷ getD bs (i + 3) 0 ∷ []
+unfolding u32At
+u32-again bs small i =
+    let fits = u16-fits bs small i in
+    let last = ap (λ (k : ℕ). getD bs k 0) (add-assoc i 2 1) in
+    let b0 : u32At bs i % 256 ≡ getD bs i 0 = omega (arith, low bs small i) in
+    let b1 : u32At bs i / 256 % 256 ≡ getD bs (i + 1) 0 = omega (arith, high bs small i) in
+    let b2 : u32At bs i / 65536 % 256 ≡ getD bs (i + 2) 0 = omega (arith, low bs small (i + 2)) in
+    let b3 : u32At bs i / 16777216 ≡ getD bs (i + 3) 0 = omega (arith, high bs small (i + 2)) in
+    λ k. b0 k ∷ b1 k ∷ b2 k ∷ b3 k ∷ []

@@ -1,18 +1,17 @@
 -- Trees and the preorder of their records. Assumes nothing.
 use mathlib.Core.Path.{_≡_, refl, sym, ap, ap₂, _∙_}
-use mathlib.Core.Bool.{Bool, true, false, _&&_}
+use mathlib.Core.Bool.{Bool, true}
 use mathlib.Core.List.{List, [], _∷_, _++_, append-nil}
-use Prim.Native.Nat.{ℕ, zero, suc, _+_, _-_, _≤_}
-use native.Mathlib.Nat.{zero-add, suc-add}
+use Prim.Native.Nat.{zero, _+_, _≤_}
 use native.Mathlib.Omega.{arith}
 use lib.ListN.{length}
 use lib.Dec.{eqb, leb}
 use borrow.Author.Tests.{leb-true, le-leb, eqb-true}
-use Rattle.records.specs.Records.{every, everyFrom}
-use Rattle.records.specs.Tree.{Node, Tree, Trees, node, none, more, count, size, sizes, joined, firsts, others, recordOf, nodeOf, preorder, preorders, grown, rowOf, closed}
+use Rattle.records.specs.Records.{every}
+use Rattle.records.specs.Tree.{Tree, Trees, node, none, more, count, size, sizes, joined, firsts, others, recordOf, nodeOf, preorder, preorders, grown, rowOf, closed}
 use Rattle.records.specs.declared.layout.NodeRecord.{NodeRecord}
-use Rattle.roundtrip.proofs.Every.{both, every-cons, every-parts}
-use Rattle.roundtrip.proofs.Rows.{count-joined, sizes-joined, joined-none, joined-joined, firsts-joined, others-joined, joined-cut, count-firsts, sizes-cut}
+use Rattle.roundtrip.proofs.Tests.{both, every-cons, every-parts}
+use Rattle.roundtrip.proofs.Rows.{count-joined, joined-none, firsts-joined, others-joined, firsts-within, others-within, joined-cut, count-firsts, sizes-cut}
 
 -- the records of two rows joined
 pub preorders-joined : (ts us : Trees) (rest : List NodeRecord) → preorders (joined ts us) rest ≡ preorders ts (preorders us rest)
@@ -53,11 +52,12 @@ mutual
   rowOf-preorders none rest = refl
   rowOf-preorders (more t ts) rest = rowOf-preorder t (preorders ts rest) ∙ ap (more t) (rowOf-preorders ts rest)
 
+-- with nothing behind the records
 pub rowOf-preorders-alone : (ts : Trees) → rowOf (preorders ts []) ≡ ts
 unfolding rowOf
 rowOf-preorders-alone ts = rowOf-preorders ts [] ∙ joined-none ts
 
--- the records of trees close
+-- the records of trees close, if those behind them do
 mutual
   unfolding preorder preorders closed recordOf
 
@@ -69,7 +69,11 @@ mutual
   closed-preorders none rest = refl
   closed-preorders (more t ts) rest = closed-preorder t (preorders ts rest) ∙ closed-preorders ts rest
 
--- their zero field is zero
+pub closed-preorders-alone : (ts : Trees) → closed (preorders ts []) ≡ true
+unfolding closed
+closed-preorders-alone ts = closed-preorders ts []
+
+-- their zero fields are zero
 abbrev pub zeroed : NodeRecord → Bool
 zeroed r = eqb (r .zero) 0
 
@@ -89,17 +93,41 @@ unfolding rowOf grown sizes size
 sizes-rowOf [] = refl
 sizes-rowOf (r ∷ rs) = omega (arith, sizes-rowOf rs, sizes-cut (r .children) (rowOf rs))
 
--- From records to trees and back
+-- a closed record finds its children, and what is behind it closes
+closed-parts : (r : NodeRecord) (rs : List NodeRecord) → closed (r ∷ rs) ≡ true → (r .children ≤ count (rowOf rs)) × (closed rs ≡ true)
+unfolding closed
+closed-parts r rs c = let p = both (leb (r .children) (count (rowOf rs))) (closed rs) c in (leb-true (r .children) (count (rowOf rs)) (p .0), p .1)
+
+-- closed records before others
+pub rowOf-append : (rs qs : List NodeRecord) → closed rs ≡ true → rowOf (rs ++ qs) ≡ joined (rowOf rs) (rowOf qs)
+unfolding rowOf grown joined
+rowOf-append [] qs c = refl
+rowOf-append (r ∷ rs) qs c =
+    let p = closed-parts r rs c in
+    rw (rowOf-append rs qs (p .1), firsts-within (r .children) (rowOf rs) (rowOf qs) (p .0), others-within (r .children) (rowOf rs) (rowOf qs) (p .0))
+
+pub closed-append : (rs qs : List NodeRecord) → closed rs ≡ true → closed (rs ++ qs) ≡ closed qs
+unfolding closed
+closed-append [] qs c = refl
+closed-append (r ∷ rs) qs c =
+    let p = closed-parts r rs c in
+    let room = le-leb (r .children) (count (rowOf rs) + count (rowOf qs)) (omega arith) in
+    rw (rowOf-append rs qs (p .1), count-joined (rowOf rs) (rowOf qs), room) (closed-append rs qs (p .1))
+
+-- From records to trees and back: closed records whose zero fields are zero are those of their trees.
 pub preorders-rowOf : (rs rest : List NodeRecord) → closed rs ≡ true → every zeroed rs ≡ true → preorders (rowOf rs) rest ≡ rs ++ rest
-unfolding rowOf grown preorders preorder closed recordOf nodeOf
+unfolding rowOf grown preorders preorder recordOf nodeOf
 preorders-rowOf [] rest c z = refl
 preorders-rowOf (r ∷ rs) rest c z =
-    let c′ = both (leb (r .children) (count (rowOf rs))) (closed rs) c in
-    let z′ = every-parts zeroed r rs z in
-    let k : count (firsts (r .children) (rowOf rs)) ≡ r .children = count-firsts (r .children) (rowOf rs) (leb-true _ _ (c′ .0)) in
-    let e : r .zero ≡ 0 = eqb-true (r .zero) 0 (z′ .0) in
-    let same : preorders (firsts (r .children) (rowOf rs)) (preorders (others (r .children) (rowOf rs)) rest) ≡ rs ++ rest =
-    sym (preorders-joined (firsts (r .children) (rowOf rs)) (others (r .children) (rowOf rs)) rest)
-    ∙ ap (λ (ts : Trees). preorders ts rest) (joined-cut (r .children) (rowOf rs))
-    ∙ preorders-rowOf rs rest (c′ .1) (z′ .1) in
-    λ i. record { kind = r .kind; flags = r .flags; label = r .label; children = k i; zero = sym e i; position = r .position } ∷ same i
+    let cs = closed-parts r rs c in
+    let zs = every-parts zeroed r rs z in
+    let kids = firsts (r .children) (rowOf rs) in
+    let after = others (r .children) (rowOf rs) in
+    let all = ap (λ (ts : Trees). preorders ts rest) (joined-cut (r .children) (rowOf rs)) ∙ preorders-rowOf rs rest (cs .1) (zs .1) in
+    let many = count-firsts (r .children) (rowOf rs) (cs .0) in
+    let none-left = eqb-true (r .zero) 0 (zs .0) in
+    let own : recordOf (nodeOf r) (count kids) ≡ r = λ i. record { kind = r .kind; flags = r .flags; label = r .label; children = many i; zero = sym none-left i; position = r .position } in
+    ap₂ _∷_ own (sym (preorders-joined kids after rest) ∙ all)
+
+pub preorders-rowOf-alone : (rs : List NodeRecord) → closed rs ≡ true → every zeroed rs ≡ true → preorders (rowOf rs) [] ≡ rs
+preorders-rowOf-alone rs c z = preorders-rowOf rs [] c z ∙ append-nil rs

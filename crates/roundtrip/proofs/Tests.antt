@@ -1,4 +1,4 @@
--- A test of every record, whatever their numbers. Assumes nothing.
+-- Tests that hold: of two, of three, of every record. Assumes nothing.
 use mathlib.Core.Path.{_≡_, refl, sym, ap, ap₂, _∙_}
 use mathlib.Core.Bool.{Bool, true, false, _&&_, _||_, and-assoc, true≢false, false≢true}
 use mathlib.Core.List.{List, [], _∷_, _++_}
@@ -14,7 +14,7 @@ both false b h = absurd (false≢true h)
 pub all-three : (a b c : Bool) → (a && b && c) ≡ true → (a ≡ true) × (b ≡ true) × (c ≡ true)
 all-three a b c h = let p = both (a && b) c h in let q = both a b (p .0) in (q .0, q .1, p .1)
 
--- neither of two tests of which none holds
+-- neither of two
 pub neither : (a b : Bool) → (a || b) ≡ false → (a ≡ false) × (b ≡ false)
 neither true b h = absurd (true≢false h)
 neither false b h = (refl, h)
@@ -34,6 +34,9 @@ module _ {A : Type 0} (good : A → Bool) where
   pub every-parts : (x : A) (xs : List A) → every good (x ∷ xs) ≡ true → (good x ≡ true) × (every good xs ≡ true)
   every-parts x xs h = both (good x) (every good xs) (sym (every-cons x xs) ∙ h)
 
+  pub every-more : (x : A) (xs : List A) → good x ≡ true → every good xs ≡ true → every good (x ∷ xs) ≡ true
+  every-more x xs h hs = every-cons x xs ∙ ap₂ _&&_ h hs
+
   pub every-append : (xs ys : List A) → every good (xs ++ ys) ≡ (every good xs && every good ys)
   unfolding everyFrom
   every-append [] ys = refl
@@ -49,4 +52,4 @@ unfolding everyFrom
 every-weaker good fair w [] h = refl
 every-weaker good fair w (x ∷ xs) h =
     let p = every-parts good x xs h in
-    every-cons fair x xs ∙ ap₂ _&&_ (w x (p .0)) (every-weaker good fair w xs (p .1))
+    every-more fair x xs (w x (p .0)) (every-weaker good fair w xs (p .1))

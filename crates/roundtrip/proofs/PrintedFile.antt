@@ -1,7 +1,7 @@
--- What is read of a printed file: its header, its parts, its length. Assumes nothing.
+-- What is read of a printed file: its header, its parts, the file; and its length. Assumes nothing.
 use mathlib.Core.Path.{_≡_, refl, sym, ap, _∙_}
-use mathlib.Core.List.{List, [], _∷_, _++_, append-nil}
-use Prim.Native.Nat.{ℕ, _+_, _*_}
+use mathlib.Core.List.{List, [], _++_, append-nil}
+use Prim.Native.Nat.{ℕ}
 use native.Mathlib.Nat.{add-zero}
 use native.Mathlib.Omega.{arith}
 use lib.ListN.{length, drop, length-append}
@@ -9,15 +9,15 @@ use lib.Seq.{drop-at}
 use Rattle.records.specs.Limits.{headerLength}
 use Rattle.records.specs.Records.{bytesOf}
 use Rattle.records.specs.Record.{headerOf, headerBytes, nameBytes, scopeBytes, frameBytes, nodeBytes, declaratorBytes, statementBytes}
-use Rattle.records.specs.Tree.{sizes, preorders}
-use Rattle.records.specs.File.{File, namesOf, scopesOf, framesOf, nodesOf, declaratorsOf, statementsOf, namesStart, scopesStart, framesStart, nodesStart, declaratorsStart, statementsStart, fileLength, headerFor, allTrees, allDeclarators, declaratorRecords, statementRecords, print}
+use Rattle.records.specs.Tree.{sizes, preorders, rowOf}
+use Rattle.records.specs.File.{File, read, readStatements, namesOf, scopesOf, framesOf, nodesOf, declaratorsOf, statementsOf, namesStart, scopesStart, framesStart, nodesStart, declaratorsStart, statementsStart, fileLength, headerFor, allTrees, allDeclarators, declaratorRecords, statementRecords, print}
 use Rattle.records.specs.declared.layout.NodeRecord.{NodeRecord}
 use Rattle.records.specs.declared.layout.DeclaratorRecord.{DeclaratorRecord}
 use Rattle.records.specs.declared.layout.StatementRecord.{StatementRecord}
-use Rattle.roundtrip.proofs.Preorder.{preorders-length}
+use Rattle.roundtrip.proofs.Preorder.{preorders-length, rowOf-preorders-alone}
 use Rattle.roundtrip.proofs.Series.{bytesOf-length, read-all, behind-all}
 use Rattle.roundtrip.proofs.Formats.{header-length, header-back, name-reads, scope-reads, frame-reads, node-reads, declarator-reads, statement-reads}
-use Rattle.roundtrip.proofs.Statements.{declaratorRecords-length, statementRecords-length}
+use Rattle.roundtrip.proofs.PrintedStatements.{declaratorRecords-length, statementRecords-length, statements-read}
 
 module _ (f : File) where
   -- the records of the parts
@@ -122,3 +122,22 @@ module _ (f : File) where
   printed-length =
       simp (length-append, header-length, bytesOf-length name-reads, bytesOf-length scope-reads, bytesOf-length frame-reads, bytesOf-length node-reads, bytesOf-length declarator-reads, bytesOf-length statement-reads)
       (omega (arith, nodes-counted, declarators-counted, statements-counted))
+
+  -- and so are its trees and statements
+  pub printed-row : rowOf (nodesOf (print f)) ≡ allTrees (f .statements)
+  printed-row = ap rowOf printed-nodes ∙ rowOf-preorders-alone (allTrees (f .statements))
+
+  printed-script : readStatements (statementsOf (print f)) (declaratorsOf (print f)) (rowOf (nodesOf (print f))) ≡ f .statements
+  printed-script = rw (printed-statements, printed-declarators, printed-row) (statements-read (f .statements))
+
+  pub printed-file : read (print f) ≡ f
+  unfolding read headerFor
+  printed-file = λ i. record {
+    options = printed-header i .options;
+    currentScope = printed-header i .«current_scope»;
+    thisScope = printed-header i .«this_scope»;
+    names = printed-names i;
+    scopes = printed-scopes i;
+    frames = printed-frames i;
+    statements = printed-script i;
+  }

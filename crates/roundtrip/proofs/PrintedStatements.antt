@@ -1,0 +1,124 @@
+-- Statements, their records, and what is read of those. Assumes nothing.
+use mathlib.Core.Path.{_≡_, refl, sym, ap, ap₂, _∙_}
+use mathlib.Core.Bool.{false, cond}
+use mathlib.Core.List.{List, [], _∷_, _++_}
+use Prim.Native.Nat.{ℕ, zero, suc, _≤_, _<_}
+use native.Mathlib.Nat.{zero-add}
+use native.Mathlib.Omega.{arith}
+use lib.ListN.{length, take, drop}
+use lib.Seq.{take-at, drop-at}
+use lib.Dec.{eqb}
+use borrow.Author.Tests.{ne-eqb}
+use Rattle.records.specs.Tree.{Trees, others}
+use Rattle.records.specs.File.{DeclarationKind, Var, Let, Const, Using, AwaitUsing, Initializer, bare, given, Declarator, Statement, declaration, expression, other, one, firstTree, initializers, readDeclarators, declarationKind, readStatement, treesOf, readStatements, isGiven, declaratorRecords, kindNumber, declaratorsIn, statementNumber, statementRecord, statementRecords, allDeclarators, initializerTree, initializerTrees, statementTrees, allTrees}
+use Rattle.records.specs.declared.layout.DeclaratorRecord.{DeclaratorRecord}
+use Rattle.roundtrip.proofs.Rows.{others-zero, others-others}
+
+-- a record for each
+pub declaratorRecords-length : (ds : List Declarator) → length (declaratorRecords ds) ≡ length ds
+unfolding declaratorRecords
+declaratorRecords-length [] = refl
+declaratorRecords-length (d ∷ ds) = ap suc (declaratorRecords-length ds)
+
+pub statementRecords-length : (ss : List Statement) → length (statementRecords ss) ≡ length ss
+unfolding statementRecords
+statementRecords-length [] = refl
+statementRecords-length (s ∷ ss) = ap suc (statementRecords-length ss)
+
+pub declaratorRecords-append : (ds es : List Declarator) → declaratorRecords (ds ++ es) ≡ declaratorRecords ds ++ declaratorRecords es
+unfolding declaratorRecords
+declaratorRecords-append [] es = refl
+declaratorRecords-append (d ∷ ds) es = rw (declaratorRecords-append ds es)
+
+-- the records of some declarators before others, and those of the others
+pub declarators-front : (ds es : List Declarator) → take (length ds) (declaratorRecords (ds ++ es)) ≡ declaratorRecords ds
+declarators-front ds es = rw (declaratorRecords-append ds es) (take-at (declaratorRecords ds) (declaratorRecords es) (length ds) (declaratorRecords-length ds))
+
+pub declarators-behind : (ds es : List Declarator) → drop (length ds) (declaratorRecords (ds ++ es)) ≡ declaratorRecords es
+declarators-behind ds es = rw (declaratorRecords-append ds es) (drop-at (declaratorRecords ds) (declaratorRecords es) (length ds) (declaratorRecords-length ds))
+
+-- an initializer before other trees
+initializer-read : (i : Initializer) (row : Trees) → cond (eqb (isGiven i) 1) (given (firstTree (initializerTree i row))) bare ≡ i
+unfolding isGiven initializerTree firstTree
+initializer-read bare row = refl
+initializer-read (given t) row = refl
+
+initializer-passed : (i : Initializer) (row : Trees) → others (one (eqb (isGiven i) 1)) (initializerTree i row) ≡ row
+unfolding isGiven initializerTree others
+initializer-passed bare row = refl
+initializer-passed (given t) row = refl
+
+-- declarators, with their initializers before other trees
+pub declarators-read : (ds : List Declarator) (row : Trees) → readDeclarators (declaratorRecords ds) (initializerTrees ds row) ≡ ds
+unfolding declaratorRecords initializerTrees readDeclarators
+declarators-read [] row = refl
+declarators-read (d ∷ ds) row =
+    let rest = initializerTrees ds row in
+    ap₂ _∷_ (λ k. record { name = d .name; initializer = initializer-read (d .initializer) rest k })
+    (ap (readDeclarators (declaratorRecords ds)) (initializer-passed (d .initializer) rest) ∙ declarators-read ds row)
+
+pub declarators-passed : (ds : List Declarator) (row : Trees) → others (initializers (declaratorRecords ds)) (initializerTrees ds row) ≡ row
+unfolding declaratorRecords initializerTrees initializers
+declarators-passed [] row = others-zero row
+declarators-passed (d ∷ ds) row =
+    let rest = initializerTrees ds row in
+    sym (others-others (one (eqb (isGiven (d .initializer)) 1)) (initializers (declaratorRecords ds)) (initializerTree (d .initializer) rest))
+    ∙ ap (others (initializers (declaratorRecords ds))) (initializer-passed (d .initializer) rest) ∙ declarators-passed ds row
+
+-- a declaration's number is below those of the other statements, and tells its kind
+pub kind-small : (k : DeclarationKind) → kindNumber k < 5
+unfolding kindNumber
+kind-small Var = omega arith
+kind-small Let = omega arith
+kind-small Const = omega arith
+kind-small Using = omega arith
+kind-small AwaitUsing = omega arith
+
+kind-back : (k : DeclarationKind) → declarationKind (kindNumber k) ≡ k
+unfolding kindNumber declarationKind
+kind-back Var = refl
+kind-back Let = refl
+kind-back Const = refl
+kind-back Using = refl
+kind-back AwaitUsing = refl
+
+pub no-declaration : (k : DeclarationKind) (n : ℕ) → 5 ≤ n → eqb (kindNumber k) n ≡ false
+no-declaration k n h = ne-eqb (kindNumber k) n (λ e. omega (arith, kind-small k))
+
+-- a declaration's record: its kind, its declarators and the trees behind it
+module _ (k : DeclarationKind) (z n : ℕ) (ds : List DeclaratorRecord) where
+  pub declaration-read : (row : Trees) → readStatement (record { kind = kindNumber k; zero = z; declarators = n }) ds row ≡ declaration k (readDeclarators (take n ds) row)
+  unfolding readStatement
+  declaration-read row = rw (no-declaration k 5 (omega arith), no-declaration k 6 (omega arith), kind-back k)
+
+  pub declaration-trees : treesOf (record { kind = kindNumber k; zero = z; declarators = n }) ds ≡ initializers (take n ds)
+  unfolding treesOf
+  declaration-trees = rw (no-declaration k 5 (omega arith)) (zero-add (initializers (take n ds)))
+
+-- a statement before others
+module _ (es : List Declarator) (row : Trees) where
+  statement-read : (s : Statement) → readStatement (statementRecord s) (declaratorRecords (declaratorsIn s ++ es)) (statementTrees s row) ≡ s
+  unfolding statementRecord statementNumber declaratorsIn statementTrees readStatement firstTree
+  statement-read (declaration k ds) =
+      let trees = initializerTrees ds row in
+      declaration-read k 0 (length ds) (declaratorRecords (ds ++ es)) trees
+      ∙ ap (declaration k) (ap (λ (rs : List DeclaratorRecord). readDeclarators rs trees) (declarators-front ds es) ∙ declarators-read ds row)
+  statement-read (expression t) = refl
+  statement-read other = refl
+
+  statement-passed : (s : Statement) → others (treesOf (statementRecord s) (declaratorRecords (declaratorsIn s ++ es))) (statementTrees s row) ≡ row
+  unfolding statementRecord statementNumber declaratorsIn statementTrees treesOf initializers others
+  statement-passed (declaration k ds) =
+      ap (λ (n : ℕ). others n (initializerTrees ds row)) (declaration-trees k 0 (length ds) (declaratorRecords (ds ++ es)) ∙ ap initializers (declarators-front ds es))
+      ∙ declarators-passed ds row
+  statement-passed (expression t) = refl
+  statement-passed other = refl
+
+-- From statements to records and back.
+pub statements-read : (ss : List Statement) → readStatements (statementRecords ss) (declaratorRecords (allDeclarators ss)) (allTrees ss) ≡ ss
+unfolding statementRecords statementRecord allDeclarators allTrees readStatements
+statements-read [] = refl
+statements-read (s ∷ ss) =
+    ap₂ _∷_ (statement-read (allDeclarators ss) (allTrees ss) s)
+    (ap₂ (readStatements (statementRecords ss)) (declarators-behind (declaratorsIn s) (allDeclarators ss)) (statement-passed (allDeclarators ss) (allTrees ss) s)
+    ∙ statements-read ss)

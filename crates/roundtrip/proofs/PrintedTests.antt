@@ -1,0 +1,91 @@
+-- Tests of the refusal table that a printed file passes, whatever it holds. Assumes nothing.
+use mathlib.Core.Path.{_≡_, refl, ap, _∙_}
+use mathlib.Core.Bool.{true, false}
+use mathlib.Core.List.{List, [], _∷_}
+use Prim.Native.Nat.{_+_}
+use native.Mathlib.Omega.{arith}
+use lib.ListN.{length, length-append}
+use lib.Dec.{eqb, leb}
+use borrow.Author.Tests.{le-leb, lt-ltb, le-ltb, eq-eqb}
+use Rattle.records.specs.Limits.{headerLength}
+use Rattle.records.specs.Records.{every, everyFrom}
+use Rattle.records.specs.Record.{headerOf, headerBytes}
+use Rattle.records.specs.Tree.{Trees, count}
+use Rattle.records.specs.File.{File, Initializer, bare, given, Declarator, Statement, declaration, expression, other, one, initializers, isGiven, declaratorRecords, kindNumber, declaratorsIn, statementNumber, statementRecord, statementRecords, allDeclarators, initializerTree, initializerTrees, statementTrees, allTrees, headerFor, fileLength, print}
+use Rattle.records.specs.Header.{notAScript, otherVersion, otherLength}
+use Rattle.records.specs.Script.{goodStatement, declaratorSum}
+use Rattle.records.specs.Place.{expressions}
+use Rattle.roundtrip.proofs.Tests.{every-more}
+use Rattle.roundtrip.proofs.PrintedStatements.{declaratorRecords-append, kind-small, no-declaration}
+use Rattle.roundtrip.proofs.ReadStatements.{presentKnown, initializers-append}
+use Rattle.roundtrip.proofs.PrintedFile.{printed-header, printed-length}
+
+-- Rows 1, 2 and 4: the letters, the version, the length.
+module _ (f : File) where
+  pub printed-script : notAScript (print f) ≡ false
+  unfolding notAScript print headerBytes
+  printed-script = rw (le-ltb (length (print f)) headerLength (omega (arith, printed-length f)))
+
+  pub printed-version : otherVersion (headerOf (print f)) ≡ false
+  unfolding otherVersion headerFor
+  printed-version = rw (printed-header f)
+
+  pub printed-measured : otherLength (print f) (headerOf (print f)) ≡ false
+  unfolding otherLength
+  printed-measured = rw (printed-header f, eq-eqb (length (print f)) (fileLength (headerFor f)) (printed-length f))
+
+-- Row 6: an initializer's mark is 0 or 1,
+given-known : (i : Initializer) → leb (isGiven i) 1 ≡ true
+unfolding isGiven
+given-known bare = refl
+given-known (given t) = refl
+
+pub declarators-known : (ds : List Declarator) → every presentKnown (declaratorRecords ds) ≡ true
+unfolding declaratorRecords everyFrom
+declarators-known [] = refl
+declarators-known (d ∷ ds) =
+    every-more presentKnown (record { name = d .name; present = isGiven (d .initializer) }) (declaratorRecords ds) (given-known (d .initializer)) (declarators-known ds)
+
+-- a statement's record is good,
+statement-good : (s : Statement) → goodStatement (statementRecord s) ≡ true
+unfolding goodStatement statementRecord statementNumber declaratorsIn
+statement-good (declaration k ds) = rw (le-leb (kindNumber k) 6 (omega (arith, kind-small k)), lt-ltb (kindNumber k) 5 (kind-small k))
+statement-good (expression t) = refl
+statement-good other = refl
+
+pub statements-good : (ss : List Statement) → every goodStatement (statementRecords ss) ≡ true
+unfolding statementRecords everyFrom
+statements-good [] = refl
+statements-good (s ∷ ss) = every-more goodStatement (statementRecord s) (statementRecords ss) (statement-good s) (statements-good ss)
+
+-- and the declarators are as many as the statements say.
+pub declarators-summed : (ss : List Statement) → declaratorSum (statementRecords ss) ≡ length (allDeclarators ss)
+unfolding declaratorSum statementRecords statementRecord allDeclarators
+declarators-summed [] = refl
+declarators-summed (s ∷ ss) = omega (arith, declarators-summed ss, length-append (declaratorsIn s) (allDeclarators ss))
+
+-- Row 8: the trees are as many as the initializers and the expressions. (That they close is a law of `Preorder`.)
+initializer-counted : (i : Initializer) (row : Trees) → count (initializerTree i row) ≡ one (eqb (isGiven i) 1) + count row
+unfolding initializerTree isGiven count
+initializer-counted bare row = omega arith
+initializer-counted (given t) row = omega arith
+
+initializers-counted : (ds : List Declarator) (row : Trees) → count (initializerTrees ds row) ≡ initializers (declaratorRecords ds) + count row
+unfolding initializerTrees declaratorRecords initializers
+initializers-counted [] row = omega arith
+initializers-counted (d ∷ ds) row = omega (arith, initializer-counted (d .initializer) (initializerTrees ds row), initializers-counted ds row)
+
+statement-counted : (s : Statement) (row : Trees) → count (statementTrees s row) ≡ initializers (declaratorRecords (declaratorsIn s)) + (one (eqb (statementNumber s) 5) + count row)
+unfolding statementTrees declaratorsIn statementNumber declaratorRecords initializers count
+statement-counted (declaration k ds) row = rw (no-declaration k 5 (omega arith)) (omega (arith, initializers-counted ds row))
+statement-counted (expression t) row = omega arith
+statement-counted other row = omega arith
+
+pub trees-counted : (ss : List Statement) → count (allTrees ss) ≡ initializers (declaratorRecords (allDeclarators ss)) + expressions (statementRecords ss)
+unfolding allTrees allDeclarators statementRecords statementRecord expressions declaratorRecords initializers count
+trees-counted [] = refl
+trees-counted (s ∷ ss) =
+    let own = declaratorRecords (declaratorsIn s) in
+    let later = declaratorRecords (allDeclarators ss) in
+    let split = ap initializers (declaratorRecords-append (declaratorsIn s) (allDeclarators ss)) ∙ initializers-append own later in
+    omega (arith, statement-counted s (allTrees ss), trees-counted ss)
