@@ -7,3 +7,4 @@ pub mod Uses
 pub mod Tallies
 pub mod Counting
 pub mod Declaring
+pub mod Judged

@@ -1,4 +1,4 @@
--- What an accepted file is: no row of the refusal table holds. Assumes nothing.
+-- Accepted bytes, by the rows of the refusal table. Assumes nothing.
 use mathlib.Core.Path.{_≡_, refl}
 use mathlib.Core.Bool.{Bool, true, false, cond, _&&_}
 use mathlib.Core.List.{List, [], _∷_}
@@ -21,6 +21,7 @@ use Rattle.records.specs.Count.{badCounts}
 use Rattle.records.specs.Refusal.{refusal, roomWanted}
 use Rattle.roundtrip.proofs.Tests.{both, all-three, neither}
 
+-- No row holds.
 pub record Accepted (bs : List ℕ) (room : ℕ) : Type 0 where
   pub isScript : notAScript bs ≡ false
   pub version : otherVersion (headerOf bs) ≡ false
@@ -47,6 +48,7 @@ none-held n (false ∷ ts) e zero = refl
 none-held n (false ∷ ts) e (suc i) = none-held (suc n) ts e i
 
 module _ (bs : List ℕ) (room : ℕ) where
+  -- the rows
   tests : List Bool
   tests =
       notAScript bs ∷ otherVersion (headerOf bs) ∷ outsideLimits (headerOf bs) ∷ otherLength bs (headerOf bs)
@@ -54,6 +56,7 @@ module _ (bs : List ℕ) (room : ℕ) where
       ∷ badTrees (declaratorsOf bs) (statementsOf bs) (nodesOf bs) ∷ declaredTwice (declaratorsOf bs) ∷ badCounts (namesOf bs) (rowOf (nodesOf bs))
       ∷ ltb room (roomWanted bs) ∷ []
 
+  -- of accepted bytes no row holds
   pub accepted : refusal bs room ≡ 0 → Accepted bs room
   unfolding refusal tests firstHeld
   accepted e =
@@ -72,12 +75,14 @@ module _ (bs : List ℕ) (room : ℕ) where
         fits = clear 10;
       }
 
+  -- bytes of which no row holds are accepted
   pub accepts : Accepted bs room → refusal bs room ≡ 0
   unfolding refusal
   accepts a = rw (a .isScript, a .version, a .limits, a .measured, a .facts, a .script, a .nodes, a .trees, a .once, a .counts, a .fits)
 
--- What rows say, as facts.
+-- What some rows say, as facts.
 module _ {bs : List ℕ} {room : ℕ} (a : Accepted bs room) where
+  -- 1: the header is there, with its letters
   pub has-header : (headerLength ≤ length bs) × (getD bs 0 0 ≡ 87) × (getD bs 1 0 ≡ 83) × (getD bs 2 0 ≡ 70)
   unfolding notAScript
   has-header =
@@ -85,34 +90,45 @@ module _ {bs : List ℕ} {room : ℕ} (a : Accepted bs room) where
       let q = all-three (eqb (getD bs 0 0) 87) (eqb (getD bs 1 0) 83) (eqb (getD bs 2 0) 70) (not-false _ (p .1)) in
       (ltb-false _ _ (p .0), eqb-true _ _ (q .0), eqb-true _ _ (q .1), eqb-true _ _ (q .2))
 
+  -- 2: the version is 1
   pub has-version : headerOf bs .version ≡ 1
   unfolding otherVersion
   has-version = eqb-true _ _ (not-false _ (a .version))
 
+  -- 3: the last number of the header is 0
   pub last-zero : headerOf bs .last ≡ 0
   unfolding outsideLimits
   last-zero =
       let h = headerOf bs in
       eqb-true _ _ (all-three (countsFit h && optionsKnown h) (headerScopes h) (eqb (h .last) 0) (not-false _ (a .limits)) .2)
 
+  -- 4: the bytes are as many as the header says
   pub has-length : length bs ≡ fileLength (headerOf bs)
   unfolding otherLength
   has-length = eqb-true _ _ (not-false _ (a .measured))
 
-  pub good-script : (every (goodDeclarator (namesOf bs)) (declaratorsOf bs) ≡ true) × (every goodStatement (statementsOf bs) ≡ true) × (declaratorSum (statementsOf bs) ≡ length (declaratorsOf bs))
+  -- 6: every declarator and statement is good, and the declarators are as many as the statements say
+  pub good-script : (every (goodDeclarator (namesOf bs)) (declaratorsOf bs) ≡ true) × (every goodStatement (statementsOf bs) ≡ true)
+      × (declaratorSum (statementsOf bs) ≡ length (declaratorsOf bs))
   unfolding badScript
   good-script =
-      let p = all-three (every (goodDeclarator (namesOf bs)) (declaratorsOf bs)) (every goodStatement (statementsOf bs)) (eqb (declaratorSum (statementsOf bs)) (length (declaratorsOf bs))) (not-false _ (a .script)) in
+      let ds = declaratorsOf bs in
+      let ss = statementsOf bs in
+      let p = all-three (every (goodDeclarator (namesOf bs)) ds) (every goodStatement ss) (eqb (declaratorSum ss) (length ds)) (not-false _ (a .script)) in
       (p .0, p .1, eqb-true _ _ (p .2))
 
+  -- 7: every node is good by itself
   pub good-nodes : every (goodNode (namesOf bs)) (nodesOf bs) ≡ true
   unfolding badNodes
   good-nodes = not-false _ (a .nodes)
 
-  pub good-trees : (closed (nodesOf bs) ≡ true) × (count (rowOf (nodesOf bs)) ≡ initializers (declaratorsOf bs) + expressions (statementsOf bs)) × (rootsStand (rowOf (nodesOf bs)) ≡ true) × (allPlaced (rowOf (nodesOf bs)) ≡ true)
+  -- 8: the trees close, are as many as initializers and expressions, and stand where they may
+  pub good-trees : (closed (nodesOf bs) ≡ true) × (count (rowOf (nodesOf bs)) ≡ initializers (declaratorsOf bs) + expressions (statementsOf bs))
+      × (rootsStand (rowOf (nodesOf bs)) ≡ true) × (allPlaced (rowOf (nodesOf bs)) ≡ true)
   unfolding badTrees
   good-trees =
       let row = rowOf (nodesOf bs) in
-      let p = all-three (closed (nodesOf bs) && eqb (count row) (initializers (declaratorsOf bs) + expressions (statementsOf bs))) (rootsStand row) (allPlaced row) (not-false _ (a .trees)) in
-      let q = both (closed (nodesOf bs)) _ (p .0) in
+      let many = eqb (count row) (initializers (declaratorsOf bs) + expressions (statementsOf bs)) in
+      let p = all-three (closed (nodesOf bs) && many) (rootsStand row) (allPlaced row) (not-false _ (a .trees)) in
+      let q = both (closed (nodesOf bs)) many (p .0) in
       (q .0, eqb-true _ _ (q .1), p .1, p .2)

@@ -1,5 +1,6 @@
--- Numbers, the six kinds of record and the header, each read from its bytes and printed to them: with the laws of
--- `Series`, where they stand in a file. Assumes nothing.
+-- Numbers, the six kinds of record and the header, each read from its bytes and printed to them. The laws of `Series`
+-- say so where they stand: `read-one-in node-reads pre n rest` is that `nodeAt (pre ++ (nodeBytes n ++ rest)) (length pre)`
+-- is n, and `print-one-in node-reads node-prints` the other way round. Assumes nothing.
 use mathlib.Core.Path.{_≡_, refl, sym, ap, _∙_}
 use mathlib.Core.List.{List, _∷_, _++_}
 use Prim.Native.Nat.{ℕ, zero, suc, _+_, _≤_}
@@ -31,7 +32,7 @@ ruleset onward-rules = (u16-drop, u32-drop, getD-drop, add-zero)
 
 ruleset whole-rules = (u16-whole, u32-whole)
 
--- Numbers.
+-- A number of two bytes; of four.
 pub u16-reads : Reads u16At u16Bytes 2
 u16-reads = record { measured = λ x. refl; onward = λ bs at. simp onward-rules; back = λ x rest. unfold u16At in simp whole-rules }
 
@@ -46,7 +47,7 @@ pub u32-prints : Prints u32At u32Bytes 4
 unfolding listed
 u32-prints = record { again = λ bs b h. (λ k. u32-again bs b 0 k ++ drop 4 bs) ∙ listed-drop bs 4 0 h }
 
--- Records.
+-- Name facts.
 pub name-reads : Reads nameAt nameBytes nameLength
 unfolding nameAt nameBytes
 name-reads = record { measured = λ x. refl; onward = λ bs at. simp onward-rules; back = λ x rest. unfold u16At u32At in simp whole-rules }
@@ -55,6 +56,7 @@ pub name-prints : Prints nameAt nameBytes nameLength
 unfolding nameAt nameBytes listed
 name-prints = record { again = λ bs b h. (λ k. u16-again bs b 0 k ++ u16-again bs b 2 k ++ u32-again bs b 4 k ++ u32-again bs b 8 k ++ drop nameLength bs) ∙ listed-drop bs nameLength 0 h }
 
+-- A scope.
 pub scope-reads : Reads scopeAt scopeBytes scopeLength
 unfolding scopeAt scopeBytes
 scope-reads = record { measured = λ x. refl; onward = λ bs at. simp onward-rules; back = λ x rest. unfold u16At u32At in simp whole-rules }
@@ -63,6 +65,7 @@ pub scope-prints : Prints scopeAt scopeBytes scopeLength
 unfolding scopeAt scopeBytes listed
 scope-prints = record { again = λ bs b h. (λ k. u16-again bs b 0 k ++ u16-again bs b 2 k ++ drop scopeLength bs) ∙ listed-drop bs scopeLength 0 h }
 
+-- A frame.
 pub frame-reads : Reads frameAt frameBytes frameLength
 unfolding frameAt frameBytes
 frame-reads = record { measured = λ x. refl; onward = λ bs at. simp onward-rules; back = λ x rest. unfold u16At u32At in simp whole-rules }
@@ -71,6 +74,7 @@ pub frame-prints : Prints frameAt frameBytes frameLength
 unfolding frameAt frameBytes listed
 frame-prints = record { again = λ bs b h. (λ k. u16-again bs b 0 k ++ u16-again bs b 2 k ++ u32-again bs b 4 k ++ drop frameLength bs) ∙ listed-drop bs frameLength 0 h }
 
+-- A node.
 pub node-reads : Reads nodeAt nodeBytes nodeLength
 unfolding nodeAt nodeBytes
 node-reads = record { measured = λ x. refl; onward = λ bs at. simp onward-rules; back = λ x rest. unfold u16At u32At in simp whole-rules }
@@ -79,6 +83,7 @@ pub node-prints : Prints nodeAt nodeBytes nodeLength
 unfolding nodeAt nodeBytes listed
 node-prints = record { again = λ bs b h. (λ k. (getD bs 0 0 ∷ getD bs 1 0 ∷ u16-again bs b 2 k ++ u16-again bs b 4 k ++ u16-again bs b 6 k ++ u32-again bs b 8 k) ++ drop nodeLength bs) ∙ listed-drop bs nodeLength 0 h }
 
+-- A declarator.
 pub declarator-reads : Reads declaratorAt declaratorBytes declaratorLength
 unfolding declaratorAt declaratorBytes
 declarator-reads = record { measured = λ x. refl; onward = λ bs at. simp onward-rules; back = λ x rest. unfold u16At u32At in simp whole-rules }
@@ -87,6 +92,7 @@ pub declarator-prints : Prints declaratorAt declaratorBytes declaratorLength
 unfolding declaratorAt declaratorBytes listed
 declarator-prints = record { again = λ bs b h. (λ k. u16-again bs b 0 k ++ u16-again bs b 2 k ++ drop declaratorLength bs) ∙ listed-drop bs declaratorLength 0 h }
 
+-- A statement.
 pub statement-reads : Reads statementAt statementBytes statementLength
 unfolding statementAt statementBytes
 statement-reads = record { measured = λ x. refl; onward = λ bs at. simp onward-rules; back = λ x rest. unfold u16At u32At in simp whole-rules }
@@ -95,19 +101,23 @@ pub statement-prints : Prints statementAt statementBytes statementLength
 unfolding statementAt statementBytes listed
 statement-prints = record { again = λ bs b h. (λ k. (getD bs 0 0 ∷ getD bs 1 0 ∷ u16-again bs b 2 k) ++ drop statementLength bs) ∙ listed-drop bs statementLength 0 h }
 
--- The header.
+-- The header is 24 bytes.
 pub header-length : (h : Header) → length (headerBytes h) ≡ headerLength
 unfolding headerBytes
 header-length h = refl
 
+-- what is read of its bytes is the header
 pub header-back : (h : Header) (rest : List ℕ) → headerOf (headerBytes h ++ rest) ≡ h
 unfolding headerOf headerBytes u16At
 header-back h rest = simp whole-rules
 
--- the letters `WSF` are not read
+-- the bytes of a header that is read are those that stand there, if the letters are `WSF`
 pub header-again : (bs : List ℕ) → Bytes bs → headerLength ≤ length bs → getD bs 0 0 ≡ 87 → getD bs 1 0 ≡ 83 → getD bs 2 0 ≡ 70
     → headerBytes (headerOf bs) ++ drop headerLength bs ≡ bs
 unfolding headerOf headerBytes listed
 header-again bs b h w s f =
-    (λ k. (sym w k ∷ sym s k ∷ sym f k ∷ getD bs 3 0 ∷ u16-again bs b 4 k ++ u16-again bs b 6 k ++ u16-again bs b 8 k ++ u16-again bs b 10 k ++ u16-again bs b 12 k ++ u16-again bs b 14 k ++ u16-again bs b 16 k ++ u16-again bs b 18 k ++ u16-again bs b 20 k ++ u16-again bs b 22 k) ++ drop headerLength bs)
+    (λ k.
+    (sym w k ∷ sym s k ∷ sym f k ∷ getD bs 3 0 ∷ u16-again bs b 4 k ++ u16-again bs b 6 k ++ u16-again bs b 8 k ++ u16-again bs b 10 k
+    ++ u16-again bs b 12 k ++ u16-again bs b 14 k ++ u16-again bs b 16 k ++ u16-again bs b 18 k ++ u16-again bs b 20 k ++ u16-again bs b 22 k)
+    ++ drop headerLength bs)
     ∙ listed-drop bs headerLength 0 h

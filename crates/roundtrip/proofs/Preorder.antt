@@ -2,7 +2,7 @@
 use mathlib.Core.Path.{_≡_, refl, sym, ap, ap₂, _∙_}
 use mathlib.Core.Bool.{Bool, true}
 use mathlib.Core.List.{List, [], _∷_, _++_, append-nil}
-use Prim.Native.Nat.{zero, _+_, _≤_}
+use Prim.Native.Nat.{ℕ, zero, _+_, _≤_}
 use native.Mathlib.Omega.{arith}
 use lib.ListN.{length}
 use lib.Dec.{eqb, leb}
@@ -52,7 +52,7 @@ mutual
   rowOf-preorders none rest = refl
   rowOf-preorders (more t ts) rest = rowOf-preorder t (preorders ts rest) ∙ ap (more t) (rowOf-preorders ts rest)
 
--- with nothing behind the records
+-- so it is with nothing behind them
 pub rowOf-preorders-alone : (ts : Trees) → rowOf (preorders ts []) ≡ ts
 unfolding rowOf
 rowOf-preorders-alone ts = rowOf-preorders ts [] ∙ joined-none ts
@@ -69,11 +69,12 @@ mutual
   closed-preorders none rest = refl
   closed-preorders (more t ts) rest = closed-preorder t (preorders ts rest) ∙ closed-preorders ts rest
 
+-- so the records of trees alone close
 pub closed-preorders-alone : (ts : Trees) → closed (preorders ts []) ≡ true
 unfolding closed
 closed-preorders-alone ts = closed-preorders ts []
 
--- their zero fields are zero
+-- a record whose zero field is zero, as in those of trees
 abbrev pub zeroed : NodeRecord → Bool
 zeroed r = eqb (r .zero) 0
 
@@ -98,7 +99,7 @@ closed-parts : (r : NodeRecord) (rs : List NodeRecord) → closed (r ∷ rs) ≡
 unfolding closed
 closed-parts r rs c = let p = both (leb (r .children) (count (rowOf rs))) (closed rs) c in (leb-true (r .children) (count (rowOf rs)) (p .0), p .1)
 
--- closed records before others
+-- the row of closed records before others
 pub rowOf-append : (rs qs : List NodeRecord) → closed rs ≡ true → rowOf (rs ++ qs) ≡ joined (rowOf rs) (rowOf qs)
 unfolding rowOf grown joined
 rowOf-append [] qs c = refl
@@ -106,6 +107,7 @@ rowOf-append (r ∷ rs) qs c =
     let p = closed-parts r rs c in
     rw (rowOf-append rs qs (p .1), firsts-within (r .children) (rowOf rs) (rowOf qs) (p .0), others-within (r .children) (rowOf rs) (rowOf qs) (p .0))
 
+-- closed records before others close if the others do
 pub closed-append : (rs qs : List NodeRecord) → closed rs ≡ true → closed (rs ++ qs) ≡ closed qs
 unfolding closed
 closed-append [] qs c = refl
@@ -114,9 +116,14 @@ closed-append (r ∷ rs) qs c =
     let room = le-leb (r .children) (count (rowOf rs) + count (rowOf qs)) (omega arith) in
     rw (rowOf-append rs qs (p .1), count-joined (rowOf rs) (rowOf qs), room) (closed-append rs qs (p .1))
 
+-- a record whose zero field is zero, from its node
+record-again : (r : NodeRecord) (children : ℕ) → children ≡ r .children → r .zero ≡ 0 → recordOf (nodeOf r) children ≡ r
+unfolding recordOf nodeOf
+record-again r children e z = λ i. record { kind = r .kind; flags = r .flags; label = r .label; children = e i; zero = sym z i; position = r .position }
+
 -- From records to trees and back: closed records whose zero fields are zero are those of their trees.
 pub preorders-rowOf : (rs rest : List NodeRecord) → closed rs ≡ true → every zeroed rs ≡ true → preorders (rowOf rs) rest ≡ rs ++ rest
-unfolding rowOf grown preorders preorder recordOf nodeOf
+unfolding rowOf grown preorders preorder
 preorders-rowOf [] rest c z = refl
 preorders-rowOf (r ∷ rs) rest c z =
     let cs = closed-parts r rs c in
@@ -125,9 +132,9 @@ preorders-rowOf (r ∷ rs) rest c z =
     let after = others (r .children) (rowOf rs) in
     let all = ap (λ (ts : Trees). preorders ts rest) (joined-cut (r .children) (rowOf rs)) ∙ preorders-rowOf rs rest (cs .1) (zs .1) in
     let many = count-firsts (r .children) (rowOf rs) (cs .0) in
-    let none-left = eqb-true (r .zero) 0 (zs .0) in
-    let own : recordOf (nodeOf r) (count kids) ≡ r = λ i. record { kind = r .kind; flags = r .flags; label = r .label; children = many i; zero = sym none-left i; position = r .position } in
-    ap₂ _∷_ own (sym (preorders-joined kids after rest) ∙ all)
+    let blank = eqb-true (r .zero) 0 (zs .0) in
+    ap₂ _∷_ (record-again r (count kids) many blank) (sym (preorders-joined kids after rest) ∙ all)
 
+-- so it is with nothing behind them
 pub preorders-rowOf-alone : (rs : List NodeRecord) → closed rs ≡ true → every zeroed rs ≡ true → preorders (rowOf rs) [] ≡ rs
 preorders-rowOf-alone rs c z = preorders-rowOf rs [] c z ∙ append-nil rs

@@ -1,4 +1,4 @@
--- What is read of a printed file: its header, its parts, the file; and its length. Assumes nothing.
+-- What is read of a printed file: its header, its parts, its statements; and its length. Assumes nothing.
 use mathlib.Core.Path.{_≡_, refl, sym, ap, _∙_}
 use mathlib.Core.List.{List, [], _++_, append-nil}
 use Prim.Native.Nat.{ℕ}
@@ -10,7 +10,7 @@ use Rattle.records.specs.Limits.{headerLength}
 use Rattle.records.specs.Records.{bytesOf}
 use Rattle.records.specs.Record.{headerOf, headerBytes, nameBytes, scopeBytes, frameBytes, nodeBytes, declaratorBytes, statementBytes}
 use Rattle.records.specs.Tree.{sizes, preorders, rowOf}
-use Rattle.records.specs.File.{File, read, readStatements, namesOf, scopesOf, framesOf, nodesOf, declaratorsOf, statementsOf, namesStart, scopesStart, framesStart, nodesStart, declaratorsStart, statementsStart, fileLength, headerFor, allTrees, allDeclarators, declaratorRecords, statementRecords, print}
+use Rattle.records.specs.File.{File, readStatements, namesOf, scopesOf, framesOf, nodesOf, declaratorsOf, statementsOf, namesStart, scopesStart, framesStart, nodesStart, declaratorsStart, statementsStart, fileLength, headerFor, allTrees, allDeclarators, declaratorRecords, statementRecords, print}
 use Rattle.records.specs.declared.layout.NodeRecord.{NodeRecord}
 use Rattle.records.specs.declared.layout.DeclaratorRecord.{DeclaratorRecord}
 use Rattle.records.specs.declared.layout.StatementRecord.{StatementRecord}
@@ -49,6 +49,7 @@ module _ (f : File) where
   abbrev behindHeader : List ℕ
   behindHeader = bytesOf nameBytes (f .names) ++ behindNames
 
+  -- the header that is read is the one that was printed
   pub printed-header : headerOf (print f) ≡ headerFor f
   unfolding print
   printed-header = header-back (headerFor f) behindHeader
@@ -89,55 +90,58 @@ module _ (f : File) where
   statements-stand : drop (statementsStart (headerFor f)) (print f) ≡ behindDeclarators
   statements-stand = behind-all declarator-reads (print f) (declaratorsStart (headerFor f)) behindDeclarators declarators (headerFor f .declarators) declarators-counted declarators-stand
 
-  -- so each part is read again
+  -- so each part is read: the names
   pub printed-names : namesOf (print f) ≡ f .names
   unfolding namesOf headerFor
   printed-names = rw printed-header (read-all name-reads (print f) (namesStart (headerFor f)) behindNames (f .names) (headerFor f .names) refl names-stand)
 
+  -- the scopes
   pub printed-scopes : scopesOf (print f) ≡ f .scopes
   unfolding scopesOf headerFor
   printed-scopes = rw printed-header (read-all scope-reads (print f) (scopesStart (headerFor f)) behindScopes (f .scopes) (headerFor f .scopes) refl scopes-stand)
 
+  -- the frames
   pub printed-frames : framesOf (print f) ≡ f .frames
   unfolding framesOf headerFor
   printed-frames = rw printed-header (read-all frame-reads (print f) (framesStart (headerFor f)) behindFrames (f .frames) (headerFor f .frames) refl frames-stand)
 
+  -- the nodes
   pub printed-nodes : nodesOf (print f) ≡ preorders (allTrees (f .statements)) []
   unfolding nodesOf
   printed-nodes = rw printed-header (read-all node-reads (print f) (nodesStart (headerFor f)) behindNodes nodeRecords (headerFor f .nodes) nodes-counted nodes-stand)
 
+  -- the declarators
   pub printed-declarators : declaratorsOf (print f) ≡ declaratorRecords (allDeclarators (f .statements))
   unfolding declaratorsOf
   printed-declarators =
       rw printed-header (read-all declarator-reads (print f) (declaratorsStart (headerFor f)) behindDeclarators declarators (headerFor f .declarators) declarators-counted declarators-stand)
 
+  -- the statements' records
   pub printed-statements : statementsOf (print f) ≡ statementRecords (f .statements)
   unfolding statementsOf
   printed-statements =
       rw printed-header (read-all statement-reads (print f) (statementsStart (headerFor f)) [] statements (headerFor f .statements) statements-counted (statements-stand ∙ sym (append-nil behindDeclarators)))
 
+  -- its trees
+  pub printed-row : rowOf (nodesOf (print f)) ≡ allTrees (f .statements)
+  printed-row = ap rowOf printed-nodes ∙ rowOf-preorders-alone (allTrees (f .statements))
+
+  -- and its statements
+  pub printed-stated : readStatements (statementsOf (print f)) (declaratorsOf (print f)) (rowOf (nodesOf (print f))) ≡ f .statements
+  printed-stated = rw (printed-statements, printed-declarators, printed-row) (statements-read (f .statements))
+
   -- a file is as long as its header says
   pub printed-length : length (print f) ≡ fileLength (headerFor f)
   unfolding print headerFor
   printed-length =
-      simp (length-append, header-length, bytesOf-length name-reads, bytesOf-length scope-reads, bytesOf-length frame-reads, bytesOf-length node-reads, bytesOf-length declarator-reads, bytesOf-length statement-reads)
+      simp (
+        length-append,
+        header-length,
+        bytesOf-length name-reads,
+        bytesOf-length scope-reads,
+        bytesOf-length frame-reads,
+        bytesOf-length node-reads,
+        bytesOf-length declarator-reads,
+        bytesOf-length statement-reads,
+      )
       (omega (arith, nodes-counted, declarators-counted, statements-counted))
-
-  -- and so are its trees and statements
-  pub printed-row : rowOf (nodesOf (print f)) ≡ allTrees (f .statements)
-  printed-row = ap rowOf printed-nodes ∙ rowOf-preorders-alone (allTrees (f .statements))
-
-  printed-script : readStatements (statementsOf (print f)) (declaratorsOf (print f)) (rowOf (nodesOf (print f))) ≡ f .statements
-  printed-script = rw (printed-statements, printed-declarators, printed-row) (statements-read (f .statements))
-
-  pub printed-file : read (print f) ≡ f
-  unfolding read headerFor
-  printed-file = λ i. record {
-    options = printed-header i .options;
-    currentScope = printed-header i .«current_scope»;
-    thisScope = printed-header i .«this_scope»;
-    names = printed-names i;
-    scopes = printed-scopes i;
-    frames = printed-frames i;
-    statements = printed-script i;
-  }

@@ -14,26 +14,29 @@ use Rattle.records.specs.File.{DeclarationKind, Var, Let, Const, Using, AwaitUs
 use Rattle.records.specs.declared.layout.DeclaratorRecord.{DeclaratorRecord}
 use Rattle.roundtrip.proofs.Rows.{others-zero, others-others}
 
--- a record for each
+-- a record for each declarator
 pub declaratorRecords-length : (ds : List Declarator) → length (declaratorRecords ds) ≡ length ds
 unfolding declaratorRecords
 declaratorRecords-length [] = refl
 declaratorRecords-length (d ∷ ds) = ap suc (declaratorRecords-length ds)
 
+-- and for each statement
 pub statementRecords-length : (ss : List Statement) → length (statementRecords ss) ≡ length ss
 unfolding statementRecords
 statementRecords-length [] = refl
 statementRecords-length (s ∷ ss) = ap suc (statementRecords-length ss)
 
+-- the records of declarators before others
 pub declaratorRecords-append : (ds es : List Declarator) → declaratorRecords (ds ++ es) ≡ declaratorRecords ds ++ declaratorRecords es
 unfolding declaratorRecords
 declaratorRecords-append [] es = refl
 declaratorRecords-append (d ∷ ds) es = rw (declaratorRecords-append ds es)
 
--- the records of some declarators before others, and those of the others
+-- from the front, so many are those of the first
 pub declarators-front : (ds es : List Declarator) → take (length ds) (declaratorRecords (ds ++ es)) ≡ declaratorRecords ds
 declarators-front ds es = rw (declaratorRecords-append ds es) (take-at (declaratorRecords ds) (declaratorRecords es) (length ds) (declaratorRecords-length ds))
 
+-- and behind those are those of the others
 pub declarators-behind : (ds es : List Declarator) → drop (length ds) (declaratorRecords (ds ++ es)) ≡ declaratorRecords es
 declarators-behind ds es = rw (declaratorRecords-append ds es) (drop-at (declaratorRecords ds) (declaratorRecords es) (length ds) (declaratorRecords-length ds))
 
@@ -48,7 +51,7 @@ unfolding isGiven initializerTree others
 initializer-passed bare row = refl
 initializer-passed (given t) row = refl
 
--- declarators, with their initializers before other trees
+-- declarators are read of their records and of their initializers, before other trees
 pub declarators-read : (ds : List Declarator) (row : Trees) → readDeclarators (declaratorRecords ds) (initializerTrees ds row) ≡ ds
 unfolding declaratorRecords initializerTrees readDeclarators
 declarators-read [] row = refl
@@ -57,6 +60,7 @@ declarators-read (d ∷ ds) row =
     ap₂ _∷_ (λ k. record { name = d .name; initializer = initializer-read (d .initializer) rest k })
     (ap (readDeclarators (declaratorRecords ds)) (initializer-passed (d .initializer) rest) ∙ declarators-read ds row)
 
+-- and the other trees are left
 pub declarators-passed : (ds : List Declarator) (row : Trees) → others (initializers (declaratorRecords ds)) (initializerTrees ds row) ≡ row
 unfolding declaratorRecords initializerTrees initializers
 declarators-passed [] row = others-zero row
@@ -65,7 +69,7 @@ declarators-passed (d ∷ ds) row =
     sym (others-others (one (eqb (isGiven (d .initializer)) 1)) (initializers (declaratorRecords ds)) (initializerTree (d .initializer) rest))
     ∙ ap (others (initializers (declaratorRecords ds))) (initializer-passed (d .initializer) rest) ∙ declarators-passed ds row
 
--- a declaration's number is below those of the other statements, and tells its kind
+-- a declaration's number is below those of the other statements
 pub kind-small : (k : DeclarationKind) → kindNumber k < 5
 unfolding kindNumber
 kind-small Var = omega arith
@@ -74,6 +78,7 @@ kind-small Const = omega arith
 kind-small Using = omega arith
 kind-small AwaitUsing = omega arith
 
+-- and tells its kind
 kind-back : (k : DeclarationKind) → declarationKind (kindNumber k) ≡ k
 unfolding kindNumber declarationKind
 kind-back Var = refl
@@ -82,20 +87,22 @@ kind-back Const = refl
 kind-back Using = refl
 kind-back AwaitUsing = refl
 
+-- so it is not one of theirs
 pub no-declaration : (k : DeclarationKind) (n : ℕ) → 5 ≤ n → eqb (kindNumber k) n ≡ false
 no-declaration k n h = ne-eqb (kindNumber k) n (λ e. omega (arith, kind-small k))
 
--- a declaration's record: its kind, its declarators and the trees behind it
+-- a declaration is read of its number and its declarators
 module _ (k : DeclarationKind) (z n : ℕ) (ds : List DeclaratorRecord) where
   pub declaration-read : (row : Trees) → readStatement (record { kind = kindNumber k; zero = z; declarators = n }) ds row ≡ declaration k (readDeclarators (take n ds) row)
   unfolding readStatement
   declaration-read row = rw (no-declaration k 5 (omega arith), no-declaration k 6 (omega arith), kind-back k)
 
+  -- and has the trees of their initializers
   pub declaration-trees : treesOf (record { kind = kindNumber k; zero = z; declarators = n }) ds ≡ initializers (take n ds)
   unfolding treesOf
   declaration-trees = rw (no-declaration k 5 (omega arith)) (zero-add (initializers (take n ds)))
 
--- a statement before others
+-- a statement before others is read, and the trees of the others are left
 module _ (es : List Declarator) (row : Trees) where
   statement-read : (s : Statement) → readStatement (statementRecord s) (declaratorRecords (declaratorsIn s ++ es)) (statementTrees s row) ≡ s
   unfolding statementRecord statementNumber declaratorsIn statementTrees readStatement firstTree

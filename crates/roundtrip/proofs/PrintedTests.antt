@@ -20,51 +20,53 @@ use Rattle.roundtrip.proofs.PrintedStatements.{declaratorRecords-append
 use Rattle.roundtrip.proofs.ReadStatements.{presentKnown, initializers-append}
 use Rattle.roundtrip.proofs.PrintedFile.{printed-header, printed-length}
 
--- Rows 1, 2 and 4: the letters, the version, the length.
 module _ (f : File) where
+  -- row 1: the letters
   pub printed-script : notAScript (print f) ≡ false
   unfolding notAScript print headerBytes
   printed-script = rw (le-ltb (length (print f)) headerLength (omega (arith, printed-length f)))
 
+  -- row 2: the version
   pub printed-version : otherVersion (headerOf (print f)) ≡ false
   unfolding otherVersion headerFor
   printed-version = rw (printed-header f)
 
+  -- row 4: the length
   pub printed-measured : otherLength (print f) (headerOf (print f)) ≡ false
   unfolding otherLength
   printed-measured = rw (printed-header f, eq-eqb (length (print f)) (fileLength (headerFor f)) (printed-length f))
 
--- Row 6: an initializer's mark is 0 or 1,
 given-known : (i : Initializer) → leb (isGiven i) 1 ≡ true
 unfolding isGiven
 given-known bare = refl
 given-known (given t) = refl
 
+-- row 6: a declarator's mark is 0 or 1
 pub declarators-known : (ds : List Declarator) → every presentKnown (declaratorRecords ds) ≡ true
 unfolding declaratorRecords everyFrom
 declarators-known [] = refl
 declarators-known (d ∷ ds) =
     every-more presentKnown (record { name = d .name; present = isGiven (d .initializer) }) (declaratorRecords ds) (given-known (d .initializer)) (declarators-known ds)
 
--- a statement's record is good,
 statement-good : (s : Statement) → goodStatement (statementRecord s) ≡ true
 unfolding goodStatement statementRecord statementNumber declaratorsIn
 statement-good (declaration k ds) = rw (le-leb (kindNumber k) 6 (omega (arith, kind-small k)), lt-ltb (kindNumber k) 5 (kind-small k))
 statement-good (expression t) = refl
 statement-good other = refl
 
+-- row 6: a statement is good
 pub statements-good : (ss : List Statement) → every goodStatement (statementRecords ss) ≡ true
 unfolding statementRecords everyFrom
 statements-good [] = refl
 statements-good (s ∷ ss) = every-more goodStatement (statementRecord s) (statementRecords ss) (statement-good s) (statements-good ss)
 
--- and the declarators are as many as the statements say.
+-- row 6: the declarators are as many as the statements say
 pub declarators-summed : (ss : List Statement) → declaratorSum (statementRecords ss) ≡ length (allDeclarators ss)
 unfolding declaratorSum statementRecords statementRecord allDeclarators
 declarators-summed [] = refl
 declarators-summed (s ∷ ss) = omega (arith, declarators-summed ss, length-append (declaratorsIn s) (allDeclarators ss))
 
--- Row 8: the trees are as many as the initializers and the expressions. (That they close is a law of `Preorder`.)
+-- the trees that an initializer adds to a row; that declarators add; that a statement adds
 initializer-counted : (i : Initializer) (row : Trees) → count (initializerTree i row) ≡ one (eqb (isGiven i) 1) + count row
 unfolding initializerTree isGiven count
 initializer-counted bare row = omega arith
@@ -81,6 +83,7 @@ statement-counted (declaration k ds) row = rw (no-declaration k 5 (omega arith))
 statement-counted (expression t) row = omega arith
 statement-counted other row = omega arith
 
+-- row 8: the trees are as many as the initializers and the expressions; that they close is `closed-preorders-alone`
 pub trees-counted : (ss : List Statement) → count (allTrees ss) ≡ initializers (declaratorRecords (allDeclarators ss)) + expressions (statementRecords ss)
 unfolding allTrees allDeclarators statementRecords statementRecord expressions declaratorRecords initializers count
 trees-counted [] = refl

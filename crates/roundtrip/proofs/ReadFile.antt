@@ -11,7 +11,7 @@ use Rattle.records.specs.Limits.{nameLength, scopeLength, frameLength, nodeLeng
 use Rattle.records.specs.Records.{bytesOf}
 use Rattle.records.specs.Record.{headerOf, nameAt, nameBytes, scopeAt, scopeBytes, frameAt, frameBytes, nodeAt, nodeBytes, declaratorAt, declaratorBytes, statementAt, statementBytes}
 use Rattle.records.specs.Tree.{Trees, sizes, preorders, rowOf}
-use Rattle.records.specs.File.{read, print, headerFor, allTrees, allDeclarators, declaratorRecords, statementRecords, namesOf, scopesOf, framesOf, nodesOf, declaratorsOf, statementsOf, namesStart, scopesStart, framesStart, nodesStart, declaratorsStart, statementsStart, fileLength}
+use Rattle.records.specs.File.{read, headerFor, allTrees, allDeclarators, declaratorRecords, statementRecords, namesOf, scopesOf, framesOf, nodesOf, declaratorsOf, statementsOf, namesStart, scopesStart, framesStart, nodesStart, declaratorsStart, statementsStart, fileLength}
 use Rattle.records.specs.Script.{goodDeclarator, goodDeclaratorOf}
 use Rattle.records.specs.Node.{isNamed, goodNode, goodNodeOf}
 use Rattle.records.specs.declared.layout.NodeRecord.{NodeRecord}
@@ -21,38 +21,44 @@ use Rattle.records.proofs.Series.{records-length}
 use Rattle.roundtrip.proofs.Tests.{both, every-weaker}
 use Rattle.roundtrip.proofs.Preorder.{zeroed, preorders-rowOf-alone, sizes-rowOf}
 use Rattle.roundtrip.proofs.Series.{print-all}
-use Rattle.roundtrip.proofs.Formats.{name-reads, name-prints, scope-reads, scope-prints, frame-reads, frame-prints, node-reads, node-prints, declarator-reads, declarator-prints, statement-reads, statement-prints, header-again}
+use Rattle.roundtrip.proofs.Formats.{name-reads, name-prints, scope-reads, scope-prints, frame-reads, frame-prints, node-reads, node-prints, declarator-reads, declarator-prints, statement-reads, statement-prints}
 use Rattle.roundtrip.proofs.PrintedStatements.{declaratorRecords-length, statementRecords-length}
 use Rattle.roundtrip.proofs.ReadStatements.{presentKnown, AllAgain, statements-again}
-use Rattle.roundtrip.proofs.Accepted.{Accepted, has-header, has-version, last-zero, has-length, good-script, good-nodes, good-trees}
+use Rattle.roundtrip.proofs.Accepted.{Accepted, has-version, last-zero, good-script, good-nodes, good-trees}
 
--- as many records as the header counts
+-- There are as many records as the header counts:
 module _ (bs : List ℕ) where
+  -- names
   pub namesOf-length : length (namesOf bs) ≡ headerOf bs .names
   unfolding namesOf
   namesOf-length = records-length (nameAt bs) nameLength (headerOf bs .names) (namesStart (headerOf bs))
 
+  -- scopes
   pub scopesOf-length : length (scopesOf bs) ≡ headerOf bs .scopes
   unfolding scopesOf
   scopesOf-length = records-length (scopeAt bs) scopeLength (headerOf bs .scopes) (scopesStart (headerOf bs))
 
+  -- frames
   pub framesOf-length : length (framesOf bs) ≡ headerOf bs .frames
   unfolding framesOf
   framesOf-length = records-length (frameAt bs) frameLength (headerOf bs .frames) (framesStart (headerOf bs))
 
+  -- nodes
   pub nodesOf-length : length (nodesOf bs) ≡ headerOf bs .nodes
   unfolding nodesOf
   nodesOf-length = records-length (nodeAt bs) nodeLength (headerOf bs .nodes) (nodesStart (headerOf bs))
 
+  -- declarators
   pub declaratorsOf-length : length (declaratorsOf bs) ≡ headerOf bs .declarators
   unfolding declaratorsOf
   declaratorsOf-length = records-length (declaratorAt bs) declaratorLength (headerOf bs .declarators) (declaratorsStart (headerOf bs))
 
+  -- statements
   pub statementsOf-length : length (statementsOf bs) ≡ headerOf bs .statements
   unfolding statementsOf
   statementsOf-length = records-length (statementAt bs) statementLength (headerOf bs .statements) (statementsStart (headerOf bs))
 
--- the parts behind the header are the bytes behind the header, if the file is as long as the header says
+-- The parts are the bytes behind the header, if those are as many as the header says.
 pub parts-again : (bs : List ℕ) → Bytes bs → length bs ≡ fileLength (headerOf bs)
     → bytesOf nameBytes (namesOf bs)
     ++ (bytesOf scopeBytes (scopesOf bs)
@@ -83,31 +89,35 @@ declarator-known : (names : List NameFacts) (d : DeclaratorRecord) → goodDecla
 unfolding goodDeclarator goodDeclaratorOf
 declarator-known names d h = both (presentKnown d) _ h .0
 
--- Of accepted bytes, the file that is read has the records that stand there.
+-- The file that is read of accepted bytes has what stands there:
 module _ (bs : List ℕ) (room : ℕ) (a : Accepted bs room) where
+  -- records, declarators and trees of the statements
   stated : AllAgain (statementsOf bs) (declaratorsOf bs) (rowOf (nodesOf bs))
   stated =
       let known = every-weaker (goodDeclarator (namesOf bs)) presentKnown (declarator-known (namesOf bs)) (declaratorsOf bs) (good-script a .0) in
       statements-again (statementsOf bs) (declaratorsOf bs) (rowOf (nodesOf bs)) (good-script a .1) known (good-script a .2) (good-trees a .1)
 
+  -- the records of its statements
   pub read-statements : statementRecords (read bs .statements) ≡ statementsOf bs
   unfolding read
   read-statements = stated .same
 
+  -- those of its declarators
   pub read-declarators : declaratorRecords (allDeclarators (read bs .statements)) ≡ declaratorsOf bs
   unfolding read
   read-declarators = stated .declared
 
+  -- its trees
   pub read-trees : allTrees (read bs .statements) ≡ rowOf (nodesOf bs)
   unfolding read
   read-trees = stated .trees
 
+  -- the records of its nodes
   pub read-nodes : preorders (allTrees (read bs .statements)) [] ≡ nodesOf bs
   read-nodes =
       let zeroes = every-weaker (goodNode (namesOf bs)) zeroed (node-zeroed (namesOf bs)) (nodesOf bs) (good-nodes a) in
       ap (λ (ts : Trees). preorders ts []) read-trees ∙ preorders-rowOf-alone (nodesOf bs) (good-trees a .0) zeroes
 
-  -- its header is the one that was read
   nodes-counted : sizes (allTrees (read bs .statements)) ≡ headerOf bs .nodes
   nodes-counted = ap sizes read-trees ∙ sizes-rowOf (nodesOf bs) ∙ nodesOf-length bs
 
@@ -117,6 +127,7 @@ module _ (bs : List ℕ) (room : ℕ) (a : Accepted bs room) where
   statements-counted : length (read bs .statements) ≡ headerOf bs .statements
   statements-counted = sym (statementRecords-length (read bs .statements)) ∙ ap length read-statements ∙ statementsOf-length bs
 
+  -- its header
   pub read-header : headerFor (read bs) ≡ headerOf bs
   unfolding headerFor read
   read-header = λ i. record {
@@ -132,10 +143,3 @@ module _ (bs : List ℕ) (room : ℕ) (a : Accepted bs room) where
     «this_scope» = headerOf bs .«this_scope»;
     last = sym (last-zero a) i;
   }
-
-  -- and so are its bytes
-  pub read-bytes : Bytes bs → print (read bs) ≡ bs
-  unfolding print read
-  read-bytes small =
-      let letters = has-header a in
-      rw (read-header, read-nodes, read-declarators, read-statements, parts-again bs small (has-length a)) (header-again bs small (letters .0) (letters .1) (letters .2) (letters .3))

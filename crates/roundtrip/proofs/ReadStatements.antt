@@ -37,6 +37,7 @@ tree-again true none h = absurd (omega arith)
 tree-again true (more t ts) h = refl
 tree-again false row h = refl
 
+-- the records of declarators that were read are those that stood there
 pub declarators-again : (ds : List DeclaratorRecord) (row : Trees) → every presentKnown ds ≡ true → declaratorRecords (readDeclarators ds row) ≡ ds
 unfolding declaratorRecords readDeclarators
 declarators-again [] row h = refl
@@ -45,6 +46,7 @@ declarators-again (d ∷ ds) row h =
     ap₂ _∷_ (λ k. record { name = d .name; present = present-again (d .present) (firstTree row) (p .0) k })
     (declarators-again ds (others (one (eqb (d .present) 1)) row) (p .1))
 
+-- and their initializers are the trees that stood in front
 pub initializers-again : (ds : List DeclaratorRecord) (row : Trees) → initializers ds ≤ count row
     → initializerTrees (readDeclarators ds row) (others (initializers ds) row) ≡ row
 unfolding initializerTrees readDeclarators initializers
@@ -56,7 +58,7 @@ initializers-again (d ∷ ds) row h =
     (ap (initializerTrees (readDeclarators ds rest)) (sym (others-others (one b) (initializers ds) row)) ∙ initializers-again ds rest (omega (arith, count-others (one b) row)))
     ∙ tree-again b row (omega arith)
 
--- the kinds of statement
+-- the numbers of statements, by what they say
 data Kind : ℕ → Type 0 where
   declares : (k : DeclarationKind) → Kind (kindNumber k)
   expresses : Kind 5
@@ -80,18 +82,22 @@ record Again (s : StatementRecord) (ds : List DeclaratorRecord) (row : Trees) : 
   trees : statementTrees (readStatement s ds row) (others (treesOf s ds) row) ≡ row
 
 module _ (ds : List DeclaratorRecord) (row : Trees) (known : every presentKnown ds ≡ true) where
+  -- the declarators of a declaration
+  own-again : (n : ℕ) → declaratorRecords (readDeclarators (take n ds) row) ≡ take n ds
+  own-again n = declarators-again (take n ds) row (every-cut presentKnown n ds known .0)
+
+  own-length : (n : ℕ) → n ≤ length ds → length (readDeclarators (take n ds) row) ≡ n
+  own-length n fits = sym (declaratorRecords-length (readDeclarators (take n ds) row)) ∙ ap length (own-again n) ∙ length-take-le n ds fits
+
   declaration-again : (k : DeclarationKind) (z n : ℕ) → z ≡ 0 → n ≤ length ds → treesOf (record { kind = kindNumber k; zero = z; declarators = n }) ds ≤ count row
       → Again (record { kind = kindNumber k; zero = z; declarators = n }) ds row
   unfolding statementRecord statementNumber declaratorsIn statementTrees
   declaration-again k z n ez fits room =
       let read = declaration-read k z n ds row in
       let many = declaration-trees k z n ds in
-      let own = declarators-again (take n ds) row (every-cut presentKnown n ds known .0) in
-      let length-own : length (readDeclarators (take n ds) row) ≡ n =
-      sym (declaratorRecords-length (readDeclarators (take n ds) row)) ∙ ap length own ∙ length-take-le n ds fits in
       record {
-        same = ap statementRecord read ∙ (λ i. record { kind = kindNumber k; zero = sym ez i; declarators = length-own i });
-        declared = ap (λ (s : Statement). declaratorRecords (declaratorsIn s)) read ∙ own;
+        same = ap statementRecord read ∙ (λ i. record { kind = kindNumber k; zero = sym ez i; declarators = own-length n fits i });
+        declared = ap (λ (s : Statement). declaratorRecords (declaratorsIn s)) read ∙ own-again n;
         trees = ap₂ (λ (s : Statement) (m : ℕ). statementTrees s (others m row)) read many ∙ initializers-again (take n ds) row (rw many at room);
       }
 
@@ -104,7 +110,7 @@ module _ (ds : List DeclaratorRecord) (row : Trees) (known : every presentKnown 
   kind-again says-other z zero ez en fits room = record { same = λ i. record { kind = 6; zero = sym ez i; declarators = 0 }; declared = refl; trees = others-zero row }
   kind-again says-other z (suc n) ez en fits room = absurd (omega (arith, eqb-true (suc n) 0 en))
 
-  -- a good statement
+  -- a good statement, of any kind
   statement-again : (s : StatementRecord) → goodStatement s ≡ true → s .declarators ≤ length ds → treesOf s ds ≤ count row → Again s ds row
   unfolding goodStatement
   statement-again s good fits room =
@@ -112,17 +118,20 @@ module _ (ds : List DeclaratorRecord) (row : Trees) (known : every presentKnown 
       let q = both (leb (s .kind) 6) (eqb (s .zero) 0) (p .0) in
       kind-again (kind-known (s .kind) (leb-true (s .kind) 6 (q .0))) (s .zero) (s .declarators) (eqb-true (s .zero) 0 (q .1)) (p .1) fits room
 
+-- the initializers of two lists of declarators
 pub initializers-append : (ds es : List DeclaratorRecord) → initializers (ds ++ es) ≡ initializers ds + initializers es
 unfolding initializers
 initializers-append [] es = omega arith
 initializers-append (d ∷ ds) es = omega (arith, initializers-append ds es)
 
--- From records to statements and back: the records, the declarators and the trees, if they are as many as is said.
+-- the records, the declarators and the trees, again from the statements that were read of them
 pub record AllAgain (ss : List StatementRecord) (ds : List DeclaratorRecord) (row : Trees) : Type 0 where
   pub same : statementRecords (readStatements ss ds row) ≡ ss
   pub declared : declaratorRecords (allDeclarators (readStatements ss ds row)) ≡ ds
   pub trees : allTrees (readStatements ss ds row) ≡ row
 
+-- From records to statements and back: good records are those of their statements, if the declarators and the trees
+-- are as many as they say.
 pub statements-again : (ss : List StatementRecord) (ds : List DeclaratorRecord) (row : Trees) → every goodStatement ss ≡ true → every presentKnown ds ≡ true
     → declaratorSum ss ≡ length ds → count row ≡ initializers ds + expressions ss → AllAgain ss ds row
 unfolding statementRecords allDeclarators declaratorRecords allTrees readStatements declaratorSum expressions initializers treesOf
@@ -134,11 +143,11 @@ statements-again (s ∷ ss) ds row good known sum many =
     let goods = every-parts goodStatement s ss good in
     let cut : initializers ds ≡ initializers (take n ds) + initializers (drop n ds) = ap initializers (sym (take-append-drop n ds)) ∙ initializers-append (take n ds) (drop n ds) in
     let first = statement-again ds row known s (goods .0) (omega arith) (omega (arith, cut)) in
-    let others = statements-again ss (drop n ds) left (goods .1) (every-cut presentKnown n ds known .1) (omega (arith, length-drop n ds)) (omega (arith, cut, count-others (treesOf s ds) row)) in
+    let later = statements-again ss (drop n ds) left (goods .1) (every-cut presentKnown n ds known .1) (omega (arith, length-drop n ds)) (omega (arith, cut, count-others (treesOf s ds) row)) in
     record {
-      same = ap₂ _∷_ (first .same) (others .same);
+      same = ap₂ _∷_ (first .same) (later .same);
       declared =
           declaratorRecords-append (declaratorsIn (readStatement s ds row)) (allDeclarators (readStatements ss (drop n ds) left))
-          ∙ ap₂ _++_ (first .declared) (others .declared) ∙ take-append-drop n ds;
-      trees = ap (statementTrees (readStatement s ds row)) (others .trees) ∙ first .trees;
+          ∙ ap₂ _++_ (first .declared) (later .declared) ∙ take-append-drop n ds;
+      trees = ap (statementTrees (readStatement s ds row)) (later .trees) ∙ first .trees;
     }

@@ -7,13 +7,23 @@ use Rattle.records.specs.Bytes.{Bytes}
 use Rattle.records.specs.Tree.{sizes}
 use Rattle.records.specs.File.{File, read, print, headerFor, allTrees, allDeclarators}
 use Rattle.records.specs.Refusal.{refusal}
-use Rattle.roundtrip.proofs.Accepted.{accepted}
-use Rattle.roundtrip.proofs.PrintedFile.{printed-file, printed-length}
-use Rattle.roundtrip.proofs.ReadFile.{read-bytes}
+use Rattle.roundtrip.proofs.Formats.{header-again}
+use Rattle.roundtrip.proofs.Accepted.{accepted, has-header, has-length}
+use Rattle.roundtrip.proofs.PrintedFile.{printed-header, printed-names, printed-scopes, printed-frames, printed-stated, printed-length}
+use Rattle.roundtrip.proofs.ReadFile.{parts-again, read-statements, read-declarators, read-nodes, read-header}
 
 -- What is read of a printed file is the file, whatever it holds.
 pub read-print : (f : File) → read (print f) ≡ f
-read-print f = printed-file f
+unfolding read headerFor
+read-print f = λ i. record {
+  options = printed-header f i .options;
+  currentScope = printed-header f i .«current_scope»;
+  thisScope = printed-header f i .«this_scope»;
+  names = printed-names f i;
+  scopes = printed-scopes f i;
+  frames = printed-frames f i;
+  statements = printed-stated f i;
+}
 
 -- So it is where the printed file is accepted.
 pub read-print-accepted : (f : File) (room : ℕ) → refusal (print f) room ≡ 0 → read (print f) ≡ f
@@ -21,7 +31,12 @@ read-print-accepted f room e = read-print f
 
 -- What is printed of the file that is read of accepted bytes is those bytes.
 pub print-read : (bs : List ℕ) (room : ℕ) → Bytes bs → refusal bs room ≡ 0 → print (read bs) ≡ bs
-print-read bs room small e = read-bytes bs room (accepted bs room e) small
+unfolding print read
+print-read bs room small e =
+    let a = accepted bs room e in
+    let h = has-header a in
+    rw (read-header bs room a, read-nodes bs room a, read-declarators bs room a, read-statements bs room a, parts-again bs small (has-length a))
+    (header-again bs small (h .0) (h .1) (h .2) (h .3))
 
 -- No two files have the same bytes.
 pub print-tells : (f g : File) → print f ≡ print g → f ≡ g

@@ -5,22 +5,25 @@ use native.Mathlib.Nat.{zero-add, suc-add}
 use native.Mathlib.Omega.{arith}
 use Rattle.records.specs.Tree.{Trees, node, none, more, count, size, sizes, joined, firsts, others}
 
--- a row joined to nothing
+-- a row joined to an empty one
 pub joined-none : (ts : Trees) → joined ts none ≡ ts
 unfolding joined
 joined-none none = refl
 joined-none (more t ts) = ap (more t) (joined-none ts)
 
+-- three rows, joined in either order
 pub joined-joined : (ts us vs : Trees) → joined (joined ts us) vs ≡ joined ts (joined us vs)
 unfolding joined
 joined-joined none us vs = refl
 joined-joined (more t ts) us vs = ap (more t) (joined-joined ts us vs)
 
+-- two rows have as many trees as both
 pub count-joined : (ts us : Trees) → count (joined ts us) ≡ count ts + count us
 unfolding count joined
 count-joined none us = omega arith
 count-joined (more t ts) us = omega (arith, count-joined ts us)
 
+-- and as many nodes
 pub sizes-joined : (ts us : Trees) → sizes (joined ts us) ≡ sizes ts + sizes us
 unfolding sizes joined
 sizes-joined none us = omega arith
@@ -38,24 +41,26 @@ unfolding count
 count-zero none e = refl
 count-zero (more t ts) e = absurd (omega arith)
 
--- the two rows that were joined
+-- the first of two rows that were joined
 pub firsts-joined : (ts us : Trees) → firsts (count ts) (joined ts us) ≡ ts
 unfolding count joined firsts
 firsts-joined none us = refl
 firsts-joined (more t ts) us = ap (more t) (firsts-joined ts us)
 
+-- and the second
 pub others-joined : (ts us : Trees) → others (count ts) (joined ts us) ≡ us
 unfolding count joined others
 others-joined none us = refl
 others-joined (more t ts) us = others-joined ts us
 
--- a cut within the first of two rows
+-- a cut within the first of two rows: before it
 pub firsts-within : (k : ℕ) (ts us : Trees) → k ≤ count ts → firsts k (joined ts us) ≡ firsts k ts
 unfolding count joined firsts
 firsts-within zero ts us h = refl
 firsts-within (suc k) none us h = absurd (omega arith)
 firsts-within (suc k) (more t ts) us h = ap (more t) (firsts-within k ts us (omega arith))
 
+-- and behind it
 pub others-within : (k : ℕ) (ts us : Trees) → k ≤ count ts → others k (joined ts us) ≡ joined (others k ts) us
 unfolding count joined others
 others-within zero ts us h = refl
@@ -69,31 +74,36 @@ joined-cut zero ts = refl
 joined-cut (suc k) none = refl
 joined-cut (suc k) (more t ts) = ap (more t) (joined-cut k ts)
 
+-- the first k trees are k
 pub count-firsts : (k : ℕ) (ts : Trees) → k ≤ count ts → count (firsts k ts) ≡ k
 unfolding count firsts
 count-firsts zero ts h = refl
 count-firsts (suc k) none h = absurd (omega arith)
 count-firsts (suc k) (more t ts) h = ap suc (count-firsts k ts (omega arith))
 
+-- the others are as many as are left
 pub count-others : (k : ℕ) (ts : Trees) → count (others k ts) ≡ count ts - k
 unfolding count others
 count-others zero ts = omega arith
 count-others (suc k) none = omega arith
 count-others (suc k) (more t ts) = omega (arith, count-others k ts)
 
--- all the nodes stand in one of the two
+-- every node stands before the cut or behind it
 pub sizes-cut : (k : ℕ) (ts : Trees) → sizes (firsts k ts) + sizes (others k ts) ≡ sizes ts
 sizes-cut k ts = omega (arith, sizes-joined (firsts k ts) (others k ts), ap sizes (joined-cut k ts))
 
+-- the trees behind none
 pub others-zero : (ts : Trees) → others 0 ts ≡ ts
 unfolding others
 others-zero ts = refl
 
+-- an empty row has no others
 pub others-none : (k : ℕ) → others k none ≡ none
 unfolding others
 others-none zero = refl
 others-none (suc k) = refl
 
+-- the others of the others
 pub others-others : (j k : ℕ) (ts : Trees) → others k (others j ts) ≡ others (j + k) ts
 unfolding others
 others-others zero k ts = rw zero-add

@@ -26,7 +26,7 @@ pub record Prints {A : Type 0} (readAt : List ℕ → ℕ → A) (bytes : A → 
   pub again : (bs : List ℕ) → Bytes bs → len ≤ length bs → bytes (readAt bs 0) ++ drop len bs ≡ bs
 
 module _ {A : Type 0} {readAt : List ℕ → ℕ → A} {bytes : A → List ℕ} {len : ℕ} (r : Reads readAt bytes len) where
-  -- a longer record that begins with this one is read alike
+  -- a longer record that begins with this one, as a node's with an end behind it, is read alike
   pub longer : (tail : A → List ℕ) (more : ℕ) → ((x : A) → length (tail x) ≡ more) → Reads readAt (λ x. bytes x ++ tail x) (len + more)
   longer tail more e = record {
     measured = λ x. omega (arith, length-append (bytes x) (tail x), r .measured x, e x);
@@ -34,20 +34,22 @@ module _ {A : Type 0} {readAt : List ℕ → ℕ → A} {bytes : A → List ℕ}
     back = λ x rest. rw (append-assoc (bytes x) (tail x) rest) (r .back x (tail x ++ rest));
   }
 
+  -- the bytes of records are as many as their lengths
   pub bytesOf-length : (xs : List A) → length (bytesOf bytes xs) ≡ len * length xs
   unfolding bytesOf
   bytesOf-length [] = omega arith
   bytesOf-length (x ∷ xs) = omega (arith, length-append (bytes x) (bytesOf bytes xs), r .measured x, bytesOf-length xs)
 
-  -- a record where it stands, and what stands behind it
+  -- a record that stands at a place is read there
   module _ (bs : List ℕ) (at : ℕ) (rest : List ℕ) where
     pub read-one : (x : A) → drop at bs ≡ bytes x ++ rest → readAt bs at ≡ x
     read-one x e = r .onward bs at ∙ ap (λ (l : List ℕ). readAt l 0) e ∙ r .back x rest
 
+    -- and behind it stands what followed
     pub behind-one : (x : A) → drop at bs ≡ bytes x ++ rest → drop (at + len) bs ≡ rest
     behind-one x e = sym (drop-drop len at bs) ∙ ap (drop len) e ∙ drop-at (bytes x) rest len (r .measured x)
 
-  -- the same of n records one after the other
+  -- n records that stand one after the other are read there
   pub read-all : (bs : List ℕ) (at : ℕ) (rest : List ℕ) (xs : List A) (n : ℕ) → length xs ≡ n → drop at bs ≡ bytesOf bytes xs ++ rest → recordsFrom (readAt bs) len n at ≡ xs
   unfolding recordsFrom bytesOf
   read-all bs at rest [] zero e h = refl
@@ -57,22 +59,25 @@ module _ {A : Type 0} {readAt : List ℕ → ℕ → A} {bytes : A → List ℕ}
       let h′ : drop at bs ≡ bytes x ++ (bytesOf bytes xs ++ rest) = h ∙ append-assoc (bytes x) (bytesOf bytes xs) rest in
       ap₂ _∷_ (read-one bs at (bytesOf bytes xs ++ rest) x h′) (read-all bs (at + len) rest xs n (omega arith) (behind-one bs at (bytesOf bytes xs ++ rest) x h′))
 
+  -- and behind them stands what followed
   pub behind-all : (bs : List ℕ) (at : ℕ) (rest : List ℕ) (xs : List A) (n : ℕ) → length xs ≡ n → drop at bs ≡ bytesOf bytes xs ++ rest → drop (at + len * n) bs ≡ rest
   behind-all bs at rest xs n e h =
       sym (drop-drop (len * n) at bs) ∙ ap (drop (len * n)) h ∙ drop-at (bytesOf bytes xs) rest (len * n) (bytesOf-length xs ∙ ap (λ (k : ℕ). len * k) e)
 
-  -- the same, behind other bytes
+  -- a record is read behind other bytes
   pub read-one-in : (pre : List ℕ) (x : A) (rest : List ℕ) → readAt (pre ++ (bytes x ++ rest)) (length pre) ≡ x
   read-one-in pre x rest = read-one (pre ++ (bytes x ++ rest)) (length pre) rest x (drop-append-seam pre (bytes x ++ rest))
 
+  -- and so are records one after the other
   pub read-all-in : (pre : List ℕ) (xs : List A) (rest : List ℕ) → recordsFrom (readAt (pre ++ (bytesOf bytes xs ++ rest))) len (length xs) (length pre) ≡ xs
   read-all-in pre xs rest = read-all (pre ++ (bytesOf bytes xs ++ rest)) (length pre) rest xs (length xs) refl (drop-append-seam pre (bytesOf bytes xs ++ rest))
 
   module _ (p : Prints readAt bytes len) (bs : List ℕ) (small : Bytes bs) where
-    -- the bytes of what is read are those that stand there
+    -- the bytes of a record that is read are those that stand there
     pub print-one : (at : ℕ) → at + len ≤ length bs → bytes (readAt bs at) ++ drop (at + len) bs ≡ drop at bs
     print-one at h = rw (r .onward bs at, ← drop-drop len at bs) (p .again (drop at bs) (bytes-drop at bs small) (omega (arith, length-drop at bs)))
 
+    -- and so are those of n records one after the other
     pub print-all : (n at : ℕ) → at + len * n ≤ length bs → bytesOf bytes (recordsFrom (readAt bs) len n at) ++ drop (at + len * n) bs ≡ drop at bs
     unfolding recordsFrom bytesOf
     print-all zero at h = rw (mul-zero, add-zero)
@@ -80,10 +85,11 @@ module _ {A : Type 0} {readAt : List ℕ → ℕ → A} {bytes : A → List ℕ}
         let onward = print-all n (at + len) (omega (arith, next-place at len n)) in
         rw (next-place at len n, append-assoc, onward) (print-one at (omega (arith, next-place at len n)))
 
-    -- the same, with the bytes before them
+    -- so a list of bytes is what stands before a record, the record, and what stands behind it
     pub print-one-in : (at : ℕ) → at + len ≤ length bs → take at bs ++ (bytes (readAt bs at) ++ drop (at + len) bs) ≡ bs
     print-one-in at h = ap (λ (l : List ℕ). take at bs ++ l) (print-one at h) ∙ take-append-drop at bs
 
+    -- or what stands before n records, the records, and what stands behind them
     pub print-all-in : (n at : ℕ) → at + len * n ≤ length bs → take at bs ++ (bytesOf bytes (recordsFrom (readAt bs) len n at) ++ drop (at + len * n) bs) ≡ bs
     print-all-in n at h = ap (λ (l : List ℕ). take at bs ++ l) (print-all n at h) ∙ take-append-drop at bs
 

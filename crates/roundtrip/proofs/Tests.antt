@@ -11,10 +11,11 @@ pub both : (a b : Bool) → (a && b) ≡ true → (a ≡ true) × (b ≡ true)
 both true b h = (refl, h)
 both false b h = absurd (false≢true h)
 
+-- all of three
 pub all-three : (a b c : Bool) → (a && b && c) ≡ true → (a ≡ true) × (b ≡ true) × (c ≡ true)
 all-three a b c h = let p = both (a && b) c h in let q = both a b (p .0) in (q .0, q .1, p .1)
 
--- neither of two
+-- neither of two, if none holds
 pub neither : (a b : Bool) → (a || b) ≡ false → (a ≡ false) × (b ≡ false)
 neither true b h = absurd (true≢false h)
 neither false b h = (refl, h)
@@ -26,27 +27,30 @@ module _ {A : Type 0} (good : A → Bool) where
   every-from i j [] = refl
   every-from i j (x ∷ xs) = ap (λ (b : Bool). good x && b) (every-from (i + 1) (j + 1) xs)
 
+  -- every record: the first and the others
   pub every-cons : (x : A) (xs : List A) → every good (x ∷ xs) ≡ (good x && every good xs)
   unfolding everyFrom
   every-cons x xs = ap (λ (b : Bool). good x && b) (every-from 1 0 xs)
 
-  -- the first and the others
+  -- if every record is good, the first is, and the others are
   pub every-parts : (x : A) (xs : List A) → every good (x ∷ xs) ≡ true → (good x ≡ true) × (every good xs ≡ true)
   every-parts x xs h = both (good x) (every good xs) (sym (every-cons x xs) ∙ h)
 
+  -- and the other way round
   pub every-more : (x : A) (xs : List A) → good x ≡ true → every good xs ≡ true → every good (x ∷ xs) ≡ true
   every-more x xs h hs = every-cons x xs ∙ ap₂ _&&_ h hs
 
+  -- every record of two lists
   pub every-append : (xs ys : List A) → every good (xs ++ ys) ≡ (every good xs && every good ys)
   unfolding everyFrom
   every-append [] ys = refl
   every-append (x ∷ xs) ys = rw (every-cons x (xs ++ ys), every-cons x xs, every-append xs ys, and-assoc)
 
-  -- some of the first, and those behind them
+  -- if every record is good, the first k are, and those behind them
   pub every-cut : (k : ℕ) (xs : List A) → every good xs ≡ true → (every good (take k xs) ≡ true) × (every good (drop k xs) ≡ true)
   every-cut k xs h = both (every good (take k xs)) (every good (drop k xs)) (sym (every-append (take k xs) (drop k xs)) ∙ ap (every good) (take-append-drop k xs) ∙ h)
 
--- a weaker test
+-- if every record passes a test, every one passes a weaker one
 pub every-weaker : {A : Type 0} (good fair : A → Bool) → ((x : A) → good x ≡ true → fair x ≡ true) → (xs : List A) → every good xs ≡ true → every fair xs ≡ true
 unfolding everyFrom
 every-weaker good fair w [] h = refl
