@@ -12,20 +12,21 @@ use crate::generate::limits::limits;
 use crate::generate::nests::nests;
 use crate::generate::random_file::random_file;
 use crate::generate::refusals::refusals;
+use crate::generate::rules::rules;
 use crate::generate::shapes::shapes;
 use crate::record::{Node, RecordFile, kind};
 use crate::scripts::scripts;
 
 /// The seed of the random part.
 const SEED: u64 = 157;
-const RANDOM_FILES: usize = 100;
+const RANDOM_FILES: usize = 80;
 const DAMAGED_FILES: usize = 60;
 /// Random files longer than this are left out.
 const MOST_BYTES: usize = 400;
 /// Of a long table's refused files one in so many is kept.
-const REFUSED_KEPT: usize = 4;
+const REFUSED_KEPT: usize = 7;
 /// Of a long table's accepted files one in so many is kept.
-const ACCEPTED_KEPT: usize = 12;
+const ACCEPTED_KEPT: usize = 13;
 
 /// Of the files with several facts changed one in so many is kept.
 const FACTS_KEPT: usize = 2503;
@@ -34,6 +35,7 @@ const FACTS_KEPT: usize = 2503;
 pub fn answer_cases() -> Vec<Case> {
     let mut cases = Vec::new();
     cases.extend(scripts().iter().map(|it| Case::of_records(it.text, &it.file)));
+    cases.extend(rules().iter().map(|it| Case::of_records(it.text, &it.file)));
     cases.extend(shapes().iter().map(|it| Case::of_records(it.text, &it.file)));
     cases.extend(refusal_cases());
     cases.extend(limits().into_iter().filter(|case| !case.bulk));
@@ -164,11 +166,11 @@ fn small_cases() -> Vec<Case> {
     first.cases
 }
 
-/// What is passed: for each kind and each label, a function, a name and an effect.
+/// What is passed: for each kind and each label, a name and an effect.
 fn passed_cases() -> Vec<Case> {
     let mut first = FirstOfEach::new();
     passed_files(2, &mut |initializer, file| {
-        if matches!(initializer, 1 | 2 | 4) {
+        if matches!(initializer, 2 | 4) {
             let passed = searched_tree(&file)[1];
             let sort = (initializer, passed.kind, passed.label);
             first.offer(sort, Case::of_records("a passed tree", &file));

@@ -1,10 +1,12 @@
-//! The kept answers: how an entry stands in bytes. `answers/README.md` describes the form.
+//! The kept answers: how an entry stands in bytes. `README.md` describes the form.
 
 use crate::fold::{Answer, fold};
 use crate::generate::case::Case;
 
 /// Lengths after which a stretch of bytes may repeat: one record, and two or three of them.
 const PERIODS: [usize; 5] = [4, 8, 12, 24, 36];
+/// Stands for the result's length where the file itself comes back.
+const SAME: u32 = u32::MAX;
 /// A repetition is worth a segment of its own from so many bytes on.
 const WORTHWHILE: usize = 64;
 
@@ -69,9 +71,12 @@ pub fn write_entry(case: &Case, answer: &Answer, out: &mut Vec<u8>) {
     out.extend(answer.folds.to_le_bytes());
     out.extend(number(usize::try_from(answer.looks).expect("it fits")));
     out.extend(number(case.file.len()));
-    out.extend(number(answer.result.len()));
+    let same = answer.number == 0 && answer.result == case.file;
+    out.extend(if same { SAME.to_le_bytes() } else { number(answer.result.len()) });
     write_bytes(&case.file, out);
-    write_bytes(&answer.result, out);
+    if !same {
+        write_bytes(&answer.result, out);
+    }
 }
 
 /// The entries of these cases.
@@ -122,7 +127,8 @@ impl Reader<'_> {
         let looks = u64::try_from(self.number()?).ok()?;
         let (file, result) = (self.number()?, self.number()?);
         let file = self.bytes(file)?;
-        let result = self.bytes(result)?;
+        let same = u32::try_from(result) == Ok(SAME);
+        let result = if same { file.clone() } else { self.bytes(result)? };
         Some(Entry { room, answer: Answer { number, result, folds, looks }, file })
     }
 }

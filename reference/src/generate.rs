@@ -8,4 +8,5 @@ pub mod limits;
 pub mod nests;
 pub mod random_file;
 pub mod refusals;
+pub mod rules;
 pub mod shapes;

@@ -91,4 +91,4 @@ passed-at good readAt len (suc n) i at zero e h = rw (mul-zero, add-zero, add-ze
 passed-at good readAt len (suc n) i at (suc k) e h =
     let m : i + suc k ≡ (i + 1) + k = omega arith in
     rw (m, mul-suc, add-comm (len * k) len, ← add-assoc)
-      (passed-at good readAt len n (i + 1) (at + len) k (and-right (good i (readAt at)) _ e) (omega arith))
+    (passed-at good readAt len n (i + 1) (at + len) k (and-right (good i (readAt at)) _ e) (omega arith))

@@ -37,14 +37,14 @@ module _ {readAt : ℕ → NodeRecord} {len n from : ℕ} {reads₀ targets₀ :
   pub counting-none : Tally (λ k. 0) reads₀ → Tally (λ k. 0) targets₀ → Counting readAt len n from reads₀ targets₀ reads₀ targets₀ 65535 n
   unfolding recordsFrom rowOf usesOf headTarget
   counting-none r t = let none : n - n ≡ 0 = omega arith in
-    record {
-      within = omega arith;
-      long = refl;
-      wide = refl;
-      read = rw none r;
-      target = rw none t;
-      ahead = rw none;
-    }
+      record {
+        within = omega arith;
+        long = refl;
+        wide = refl;
+        read = rw none r;
+        target = rw none t;
+        ahead = rw none;
+      }
 
   pub counting-more : {reads targets : List ℕ} {next i : ℕ} (reads' targets' : List ℕ) (x : NodeRecord) (name next' j : ℕ)
       → Counting readAt len n from reads₀ targets₀ reads targets next i → i ≡ j + 1 → x ≡ readAt (from + len * j)
@@ -58,10 +58,10 @@ module _ {readAt : ℕ → NodeRecord} {len n from : ℕ} {reads₀ targets₀ :
     wide = lt ∙ p .wide;
     read =
         rw (one-more readAt len n from i j ei (p .within), ← ex)
-          (tally-more nameRead x _ reads reads' name lr (en ∙ ap (recordRead x) (p .ahead) ∙ sym (read-record x _)) (p .read) tr);
+        (tally-more nameRead x _ reads reads' name lr (en ∙ ap (recordRead x) (p .ahead) ∙ sym (read-record x _)) (p .read) tr);
     target =
         rw (one-more readAt len n from i j ei (p .within), ← ex)
-          (tally-more (λ m kids. targetName m) x _ targets targets' next' lt et (p .target) tt');
+        (tally-more (λ m kids. targetName m) x _ targets targets' next' lt et (p .target) tt');
     ahead = rw (one-more readAt len n from i j ei (p .within), ← ex) et;
   }
 
@@ -73,7 +73,7 @@ module _ {readAt : ℕ → NodeRecord} {len n from : ℕ} {reads₀ targets₀ :
   pub targets-low : {reads targets : List ℕ} {next i : ℕ} → Counting readAt len n from reads₀ targets₀ reads targets next i → (k : ℕ) → getD targets k 0 ≤ n - i
   targets-low {targets = targets} {i = i} p k =
       rw (← records-length readAt len (n - i) (from + len * i))
-        (tally-low (λ m kids. targetName m) (recordsFrom readAt len (n - i) (from + len * i)) targets (p .target) k)
+      (tally-low (λ m kids. targetName m) (recordsFrom readAt len (n - i) (from + len * i)) targets (p .target) k)
 
   pub counted-reads : {reads targets : List ℕ} {next i : ℕ} → Counting readAt len n from reads₀ targets₀ reads targets next i → i ≤ 0
       → Tally (λ k. readsOf k (rowOf (recordsFrom readAt len n from))) reads

@@ -45,7 +45,7 @@ module _ {readAt : ℕ → DeclaratorRecord} {len n from : ℕ} {seen₀ : List 
   pub declaring-none : Tally (λ k. 0) seen₀ → Declaring readAt len n from seen₀ seen₀ false n
   unfolding recordsFrom declares declaredTwice
   declaring-none t = let none : n - n ≡ 0 = omega arith in
-    record { within = omega arith; long = refl; tally = rw none t; judged = rw none }
+      record { within = omega arith; long = refl; tally = rw none t; judged = rw none }
 
   -- a name with a place
   pub declaring-name : {seen : List ℕ} {twice : Bool} {i : ℕ} (d : DeclaratorRecord) (j : ℕ) → Declaring readAt len n from seen₀ seen twice i → i ≡ j + 1
@@ -57,7 +57,7 @@ module _ {readAt : ℕ → DeclaratorRecord} {len n from : ℕ} {seen₀ : List 
     long = length-set seen (d .name) 1 ∙ p .long;
     tally =
         rw (one-more readAt len n from i j ei (p .within), ← ed)
-          (λ k hk. tally-set _ seen (d .name) 1 h (p .tally) k hk ∙ one-or (eqb (d .name) k) _);
+        (λ k hk. tally-set _ seen (d .name) 1 h (p .tally) k hk ∙ one-or (eqb (d .name) k) _);
     judged =
         rw (one-more readAt len n from i j ei (p .within), ← ed, ne-eqb (d .name) 65535 (λ e. omega arith), p .tally (d .name) h, one-is, p .judged);
   }
@@ -72,7 +72,7 @@ module _ {readAt : ℕ → DeclaratorRecord} {len n from : ℕ} {seen₀ : List 
     long = p .long;
     tally =
         rw (one-more readAt len n from i j ei (p .within), ← ed)
-          (λ k hk. p .tally k hk ∙ rw (ne-eqb (d .name) k (λ q. omega arith)));
+        (λ k hk. p .tally k hk ∙ rw (ne-eqb (d .name) k (λ q. omega arith)));
     judged = rw (one-more readAt len n from i j ei (p .within), ← ed, eq-eqb (d .name) 65535 e) (p .judged);
   }
 

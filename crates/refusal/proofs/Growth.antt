@@ -36,14 +36,14 @@ module _ {readAt : ℕ → NodeRecord} {len n from : ℕ} {stack₀ : List ℕ} 
   pub growing-none : (m : ℕ) → m ≡ length stack₀ → Growing readAt len n from stack₀ stack₀ true m n
   unfolding recordsFrom rowOf entries closed allPlaced
   growing-none m e = let none : n - n ≡ 0 = omega arith in
-    record {
-      within = omega arith;
-      long = refl;
-      inside = omega arith;
-      room = omega arith;
-      same = rw (none, e) (drop-length stack₀);
-      judged = rw none;
-    }
+      record {
+        within = omega arith;
+        long = refl;
+        inside = omega arith;
+        room = omega arith;
+        same = rw (none, e) (drop-length stack₀);
+        judged = rw none;
+      }
 
   pub growing-more : {stack : List ℕ} {good : Bool} {top i : ℕ} (x : NodeRecord) (g : Bool) (e t j : ℕ)
       → Growing readAt len n from stack₀ stack good top i → i ≡ j + 1 → n ≤ length stack₀ → x ≡ readAt (from + len * j)
@@ -57,10 +57,10 @@ module _ {readAt : ℕ → NodeRecord} {len n from : ℕ} {stack₀ : List ℕ} 
     room = omega (arith, length-set stack t e);
     same =
         rw (one-more readAt len n from i j ei (p .within), ← ex)
-          (pushed-stack x stack top t e (omega arith) ee et ∙ ap (pushed x) (p .same) ∙ sym (entries-grown x _));
+        (pushed-stack x stack top t e (omega arith) ee et ∙ ap (pushed x) (p .same) ∙ sym (entries-grown x _));
     judged =
         rw (one-more readAt len n from i j ei (p .within), ← ex)
-          (rw (eg, p .same, p .judged) (grown-good x _));
+        (rw (eg, p .same, p .judged) (grown-good x _));
   }
 
   pub growing-all : {stack : List ℕ} {good : Bool} {top i : ℕ} → Growing readAt len n from stack₀ stack good top i → i ≤ 0

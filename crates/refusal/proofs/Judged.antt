@@ -53,7 +53,7 @@ module _ (stack : List ℕ) (top : ℕ) (row : Trees) (same : drop top stack ≡
   pub row-roots : top ≤ length stack → everyFrom (λ k. rootStands) 0 (recordsFrom (entryAt stack) 1 (length stack - top) top) ≡ rootsStand row
   row-roots h =
       rw (entries-part stack (length stack - top) top (omega arith), take-all (length stack - top) (drop top stack) (omega (arith, length-drop top stack)), same)
-        (sym (roots-entries 0 row))
+      (sym (roots-entries 0 row))
 
 and-turned : (c p a r : Bool) → (c && p && a && r) ≡ (c && a && r && p)
 and-turned true true true true = refl
@@ -72,7 +72,7 @@ pub trees-judged : (ds : List DeclaratorRecord) (ss : List StatementRecord) (ns 
 unfolding badTrees
 trees-judged ds ss ns stack top trees good roots eg h same et er =
     rw (eg, er, row-roots stack top (rowOf ns) same h, row-count stack top (rowOf ns) same, et)
-      (ap not (and-turned (closed ns) (allPlaced (rowOf ns)) (eqb (count (rowOf ns)) (initializers ds + expressions ss)) (rootsStand (rowOf ns))))
+    (ap not (and-turned (closed ns) (allPlaced (rowOf ns)) (eqb (count (rowOf ns)) (initializers ds + expressions ss)) (rootsStand (rowOf ns))))
 
 -- tests that agree on the records of a series
 pub every-same : {A : Type 0} (f g : ℕ → A → Bool) (i : ℕ) (xs : List A) → ((k : ℕ) (x : A) → k < i + length xs → f k x ≡ g k x)

@@ -8,3 +8,4 @@ pub mod Tallies
 pub mod Counting
 pub mod Declaring
 pub mod Judged
+pub mod Limits

@@ -81,9 +81,9 @@ pub grown-good : (r : NodeRecord) (rs : List NodeRecord)
 unfolding childrenStand closed rowOf grown allPlaced nodeOf
 grown-good r rs =
     rw (entries-length (rowOf rs), ← entries-firsts (r .children) (rowOf rs), ← stand-entries (nodeOf r) 0 (firsts (r .children) (rowOf rs)), ← placed-split (r .children) (rowOf rs))
-      (and-dealt
-        (leb (r .children) (count (rowOf rs)))
-        (standUnder (nodeOf r) 0 (firsts (r .children) (rowOf rs)))
-        (closed rs)
-        (allPlaced (firsts (r .children) (rowOf rs)))
-        (allPlaced (others (r .children) (rowOf rs))))
+    (and-dealt
+    (leb (r .children) (count (rowOf rs)))
+    (standUnder (nodeOf r) 0 (firsts (r .children) (rowOf rs)))
+    (closed rs)
+    (allPlaced (firsts (r .children) (rowOf rs)))
+    (allPlaced (others (r .children) (rowOf rs))))

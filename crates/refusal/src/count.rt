@@ -9,9 +9,13 @@ ghost use Rattle.records.specs.File.{one as oneOf};
 ghost use Rattle.records.specs.Tree.{nodeOf, rowOf};
 ghost use Rattle.records.specs.Count.{targetName, readsOf, targetsOf, goodCounts};
 ghost use Rattle.refusal.specs.Tally.{Tally, recordRead};
-use records::layout::{name_at, node_at, NameFacts, NodeRecord};
+use records::layout::NameFacts;
+use records::layout::NodeRecord;
+use records::layout::name_at;
+use records::layout::node_at;
 use records::limits::NO_NUMBER;
-use records::number::{size, wide16};
+use records::number::size;
+use records::number::wide16;
 
 // The name of a target name, else 65535.
 pub fn target_name(n: NodeRecord) -> u16

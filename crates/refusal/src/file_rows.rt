@@ -1,26 +1,34 @@
-// Rows 5 to 8 and 10 of the refusal table, each over all the records that it is about.
+// Rows 5 to 11 of the refusal table, each over all the records that it is about.
 ghost use mathlib.Core.Path.{_≡_};
-ghost use Prim.Native.Nat.{_+_, _≤_};
+ghost use mathlib.Core.Bool.{true};
+ghost use Prim.Native.Nat.{_+_, _≤_, _<_};
 ghost use lib.ListN.{length};
+ghost use lib.Dec.{ltb};
 ghost use Rattle.records.specs.Record.{headerOf};
-ghost use Rattle.records.specs.Header.{outsideLimits, otherLength};
+ghost use Rattle.records.specs.Records.{every};
 ghost use Rattle.records.specs.Facts.{badFacts};
-ghost use Rattle.records.specs.Script.{badScript};
+ghost use Rattle.records.specs.Script.{badScript, declaredTwice};
 ghost use Rattle.records.specs.Node.{badNodes};
 ghost use Rattle.records.specs.Place.{badTrees, expressions};
 ghost use Rattle.records.specs.Count.{badCounts};
 ghost use Rattle.records.specs.Tree.{rowOf};
 ghost use Rattle.records.specs.File.{fileLength, namesOf, scopesOf, framesOf, nodesOf, declaratorsOf, statementsOf, initializers};
-ghost use Rattle.refusal.specs.Tally.{Tally};
-use crate::count::{count_uses, counts_are_good};
+ghost use Rattle.records.specs.Refusal.{roomWanted};
+ghost use Rattle.refusal.specs.Tally.{Tally, fits};
+use crate::count::count_uses;
+use crate::count::counts_are_good;
+use crate::declared::declared_twice;
 use crate::place::roots_stand;
 use crate::tree::tree_totals;
-use records::facts::{frames_are_good, names_are_good, scopes_are_good};
+use records::facts::frames_are_good;
+use records::facts::names_are_good;
+use records::facts::scopes_are_good;
 use records::header::part_offsets;
 use records::layout::Header;
 use records::node::nodes_are_good;
 use records::number::size;
-use records::script::{declarator_totals, statement_totals};
+use records::script::declarator_totals;
+use records::script::statement_totals;
 
 // Row 5.
 pub fn facts_are_bad(file: &[u8], h: Header) -> bool
@@ -96,4 +104,28 @@ pub fn counts_are_bad(file: &[u8], h: Header, reads: &mut [u16], targets: &mut [
     let parts = part_offsets(h);
     count_uses(file, parts[3], size(h.nodes), reads, targets);
     !counts_are_good(file, size(h.names), reads, targets)
+}
+
+// Row 9, where row 6 holds no more.
+pub fn names_are_declared_twice(file: &[u8], h: Header, seen: &mut [u8]) -> bool
+    requires { ⌜ h ≡ headerOf (now file) ⌝ }
+    requires { ⌜ length (now file) ≡ fileLength h ⌝ }
+    requires { ⌜ every fits (declaratorsOf (now file)) ≡ true ⌝ }
+    requires { ⌜ 256 ≤ length (now seen) ⌝ }
+    requires { ⌜ length (now seen) < 65535 ⌝ }
+    requires { ⌜ Tally (λ k. 0) (now seen) ⌝ }
+    ensures { λ r. ⌜ r ≡ declaredTwice (declaratorsOf (now (file .entry))) ⌝ }
+{
+    let parts = part_offsets(h);
+    declared_twice(file, parts[4], size(h.declarators), seen)
+}
+
+// Row 11.
+pub fn room_is_short(file: &[u8], h: Header, room: usize) -> bool
+    requires { ⌜ h ≡ headerOf (now file) ⌝ }
+    requires { ⌜ length (now file) ≡ fileLength h ⌝ }
+    ensures { λ r. ⌜ r ≡ ltb room (roomWanted (now (file .entry))) ⌝ }
+{
+    let wanted = file.len() + 8 * size(h.declarators);
+    room < wanted
 }

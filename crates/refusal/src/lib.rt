@@ -1,5 +1,6 @@
 // The refusal table over a whole file: its trees, the counts of its names, and the public call.
 pub mod answer;
+pub mod check;
 pub mod count;
 pub mod declared;
 pub mod file_rows;

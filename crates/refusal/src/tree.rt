@@ -9,9 +9,13 @@ ghost use Rattle.records.specs.Records.{recordsFrom};
 ghost use Rattle.records.specs.Tree.{count as countOf, rowOf, closed};
 ghost use Rattle.records.specs.Place.{allPlaced};
 ghost use Rattle.refusal.specs.Stack.{entries, entryAt, firstLoose, childrenStand, nodeEntry};
-use crate::place::{children_stand, entry, is_link};
-use records::layout::{node_at, NodeRecord};
-use records::number::{size, wide};
+use crate::place::children_stand;
+use crate::place::entry;
+use crate::place::is_link;
+use records::layout::NodeRecord;
+use records::layout::node_at;
+use records::number::size;
+use records::number::wide;
 
 // The smaller of two numbers.
 pub fn least(a: usize, b: usize) -> usize

@@ -18,6 +18,7 @@ use crate::generate::limits::limits;
 use crate::generate::nests::nests;
 use crate::generate::random_file::random_file;
 use crate::generate::refusals::refusals;
+use crate::generate::rules::{Rule, rules};
 use crate::generate::shapes::{Shape, shapes};
 use crate::origin::as_compared;
 use crate::scripts::{Script, scripts};
@@ -43,6 +44,7 @@ pub fn check_all(directory: &Path, amount: Amount) -> usize {
     report.part("carried functions", as_compared);
     report.part("scripts", || check_scripts(directory));
     report.part("expected numbers", check_expected);
+    report.part("rules", check_rules);
     report.part("shapes", check_shapes);
     report.part("kept answers", || check_answers(directory));
     check_generated(&mut report, amount);
@@ -122,6 +124,18 @@ fn check_expected() -> Result<String, String> {
         count += 1;
     }
     Ok(format!("{count} files returned the numbers worked out by hand"))
+}
+
+/// The files of single rules, whose folds were worked out by hand.
+fn check_rules() -> Result<String, String> {
+    let rules = rules();
+    for Rule { text, folds, file } in &rules {
+        let case = Case::of_records(*text, file);
+        let answer = fold(&case.file, case.room);
+        let holds = answer.number == 0 && answer.folds == *folds;
+        demand(holds, || format!("`{text}`: {} folds, not {folds}", answer.folds))?;
+    }
+    Ok(format!("{} files had the folds worked out by hand", rules.len()))
 }
 
 /// The Rust folds the four shapes.

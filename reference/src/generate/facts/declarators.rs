@@ -1,10 +1,42 @@
 //! `let v = <initializer>; [v]`: the fold happens if nothing keeps the declarator.
 
+use super::Table;
 use crate::build::{Line, PLAIN_NAME, Tree, empty_file, push_line};
 use crate::record::*;
 
 /// Kind of declaration, initializer, kept names, literals only, scope, binding, searched place.
-pub const FACTORS: [usize; 7] = [5, 8, 4, 2, 6, 10, 4];
+pub const TABLE: Table<7> = Table {
+    what: "declarators",
+    factors: [5, 8, 4, 2, 6, 10, 4],
+    file,
+    telling: &[
+        // Kept names: of functions, of classes, of both.
+        [0, 1, 1, 0, 0, 0, 0],
+        [0, 2, 1, 0, 0, 0, 0],
+        [0, 2, 2, 0, 0, 0, 0],
+        [0, 2, 3, 0, 0, 0, 0],
+        [0, 3, 2, 0, 0, 0, 0],
+        [0, 4, 1, 0, 0, 0, 0],
+        [0, 4, 2, 0, 0, 0, 0],
+        [0, 4, 3, 0, 0, 0, 0],
+        [0, 2, 1, 0, 0, 0, 3],
+        // Literals only, which speaks of statements alone.
+        [0, 1, 0, 1, 0, 0, 0],
+        [0, 5, 0, 1, 0, 0, 0],
+        [0, 6, 0, 1, 0, 0, 0],
+        [0, 5, 0, 1, 0, 0, 1],
+        [0, 5, 0, 1, 0, 0, 2],
+        [0, 5, 0, 1, 0, 0, 3],
+        // Within a declaration: using, direct eval, a script's outermost scope.
+        [3, 0, 0, 0, 0, 0, 3],
+        [4, 0, 0, 0, 0, 0, 3],
+        [0, 0, 0, 0, 1, 0, 3],
+        [0, 0, 0, 0, 5, 0, 3],
+        [0, 0, 0, 0, 0, 2, 3],
+        [0, 0, 0, 0, 0, 9, 3],
+        [0, 7, 0, 0, 0, 0, 3],
+    ],
+};
 
 const SEARCHED: u16 = 0;
 const OTHER: u16 = 1;
@@ -23,7 +55,7 @@ const KEPT: [u8; 4] = [
     option::KEEP_FUNCTION_NAMES | option::KEEP_CLASS_NAMES,
 ];
 
-pub fn file(choice: [usize; 7]) -> RecordFile {
+fn file(choice: [usize; 7]) -> RecordFile {
     let [kind, initializer, kept, literals, scope, binding, place] = choice;
     let mut file = empty_file(vec![name_of(binding), PLAIN_NAME, PLAIN_NAME]);
     file.options = KEPT[kept] | if literals == 1 { option::LITERAL_ONLY } else { 0 };

@@ -1,10 +1,31 @@
 //! `let v = f(); [n, v]`: the fold happens if n is settled.
 
+use super::Table;
 use crate::build::{Line, Tree, declared_name, empty_file, push_line};
 use crate::record::*;
 
 /// Sort of name, import, value record, script, current scope, the name's scope, function scopes.
-pub const FACTORS: [usize; 7] = [5, 2, 5, 2, 4, 4, 16];
+pub const TABLE: Table<7> = Table {
+    what: "names",
+    factors: [5, 2, 5, 2, 4, 4, 16],
+    file,
+    telling: &[
+        // In a script: scopes other than 0.
+        [0, 0, 0, 1, 0, 1, 0],
+        [1, 0, 0, 1, 0, 2, 0],
+        // Read across a function: a var, neither, an import; recorded.
+        [1, 0, 0, 0, 0, 0, 3],
+        [2, 0, 0, 0, 0, 0, 3],
+        [0, 0, 2, 0, 0, 0, 3],
+        // The climb to a scope that is no ancestor, scope 0 no function.
+        [0, 0, 0, 0, 0, 3, 1],
+        [0, 0, 0, 0, 3, 1, 1],
+        // The function scope is the name's own, or stands above it.
+        [0, 0, 0, 0, 0, 1, 2],
+        [0, 0, 0, 0, 0, 2, 2],
+        [0, 0, 0, 0, 0, 2, 4],
+    ],
+};
 
 const SEARCHED: u16 = 0;
 const ASKED: u16 = 1;
@@ -16,7 +37,7 @@ const CURRENT: [u16; 4] = [2, 1, 0, 3];
 /// The name's scope, by value.
 const OWN: [u16; 4] = [0, 1, 2, 3];
 
-pub fn file(choice: [usize; 7]) -> RecordFile {
+fn file(choice: [usize; 7]) -> RecordFile {
     let [sort, import, record, script, current, own, functions] = choice;
     let asked = name_of(sort, import == 1, record, OWN[own]);
     let mut file = empty_file(vec![declared_name(1), asked]);

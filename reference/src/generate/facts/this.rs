@@ -1,10 +1,31 @@
 //! `let v = f(); this.x = v`: the fold happens if `this` doesn't block.
 
+use super::Table;
 use crate::build::{Line, PLAIN_NAME, Tree, declared_name, empty_file, push_line};
 use crate::record::*;
 
 /// The `this` scope, three frames, the target.
-pub const FACTORS: [usize; 5] = [3, 9, 9, 9, 4];
+pub const TABLE: Table<5> = Table {
+    what: "this",
+    factors: [3, 9, 9, 9, 4],
+    file,
+    telling: &[
+        // A later frame of the `this` scope, initialised later or never.
+        [0, 0, 3, 0, 0],
+        [0, 0, 4, 0, 0],
+        // A frame of the other scope behind it, initialised in time.
+        [0, 2, 5, 0, 0],
+        [0, 3, 6, 0, 0],
+        // The one in time stands before the last of the `this` scope.
+        [0, 4, 4, 0, 0],
+        [0, 4, 4, 1, 0],
+        // No frame; blocked in each target.
+        [1, 8, 0, 0, 0],
+        [0, 8, 0, 0, 1],
+        [0, 8, 0, 0, 2],
+        [0, 8, 0, 0, 3],
+    ],
+};
 
 const SEARCHED: u16 = 0;
 const SETTLED: u16 = 1;
@@ -14,7 +35,7 @@ const POSITION: u32 = 11;
 /// The `this` scope, by value.
 const SCOPES: [u16; 3] = [1, NONE, 0];
 
-pub fn file(choice: [usize; 5]) -> RecordFile {
+fn file(choice: [usize; 5]) -> RecordFile {
     let [scope, first, second, third, target] = choice;
     let mut file = empty_file(vec![declared_name(1), PLAIN_NAME]);
     file.scopes.push(Scope { parent: 0, flags: scope::FUNCTION });

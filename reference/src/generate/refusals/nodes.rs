@@ -73,7 +73,12 @@ pub fn nodes_by_kind(cases: &mut Cases) {
             let own_row = is_about_another_row(of, flags);
             if good & flags == 0 && !own_row {
                 let tree = as_expression(tree_of_kind(of).flagged(flags));
-                cases.bulk_tree(7, &format!("kind {of} with bit {bit}"), tree);
+                let what = format!("kind {of} with bit {bit}");
+                if flags == flag::MARK {
+                    cases.tree(7, &what, tree);
+                } else {
+                    cases.bulk_tree(7, &what, tree);
+                }
             }
         }
         children_of_kind(cases, of);

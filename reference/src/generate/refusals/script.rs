@@ -42,8 +42,12 @@ pub fn declarators_and_statements(cases: &mut Cases) {
 
 /// Row 9.
 pub fn declared_twice(cases: &mut Cases) {
+    let again = |name: u16, kind: u8| Line::Declaration { kind, declarators: vec![(name, None)] };
     cases.change(9, "twice in two statements", |file| file.declarators[1].name = SEARCHED);
     cases.change(9, "twice in one statement", |file| file.declarators[1].name = PLAIN);
+    cases.change(9, "again at the end", |file| push_line(file, &again(SEARCHED, statement::VAR)));
+    cases.change(9, "again by a using", |file| push_line(file, &again(PLAIN, statement::USING)));
+    cases.change(0, "another at the end", |file| push_line(file, &again(MUTATED, statement::VAR)));
     cases.change(0, "two patterns", |file| file.declarators[2].name = NONE);
 }
 
@@ -63,6 +67,13 @@ pub fn exceeded_counts(cases: &mut Cases) {
     cases.change(0, "a compound target counted", |file| {
         file.names[written].writes = 2;
         push_line(file, &Line::Expression(assign(flag::COMPOUND, target(WRITTEN))));
+    });
+    cases.change(0, "a compound target is one read", |file| {
+        file.names[written].reads = 1;
+        let node = file.nodes.iter_mut().find(|it| it.kind == kind::ASSIGNMENT);
+        node.expect("there is one").flags = flag::COMPOUND;
+        let read = file.nodes.iter_mut().find(|it| it.kind == kind::NAME && it.label == WRITTEN);
+        read.expect("there is one").label = PLAIN;
     });
     cases.change(10, "a second target", |file| {
         push_line(file, &Line::Expression(assign(0, target(WRITTEN))));

@@ -91,7 +91,12 @@ pub fn kinds_at_places(cases: &mut Cases) {
             tree.children[child] = tree_of_kind(of);
             let number = if takes.takes(of) { 0 } else { 8 };
             let what = format!("kind {of} as child {child} of kind {}", parent.kind);
-            cases.bulk_tree(number, &what, as_expression(tree));
+            // A spread and a target tell one place from another.
+            if of == kind::SPREAD || of == kind::TARGET_NAME {
+                cases.tree(number, &what, as_expression(tree));
+            } else {
+                cases.bulk_tree(number, &what, as_expression(tree));
+            }
         }
     }
 }

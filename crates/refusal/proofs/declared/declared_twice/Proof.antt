@@ -48,8 +48,8 @@ loop-less-2 c = omega arith
 loop-again-2 : tie.Need-loop-again-2 Inv-loop μ-loop
 loop-again-2 c =
     declaring-pattern ((c .before .before .declarator-at) .result) _ ((c .before .before .before .before .loop) .inv) (omega arith) ((c .before .before .declarator-at) .ensures)
-      (pattern-at _ 4 _ _ _ ((c .before .before .declarator-at) .result) (((c .before .before .before .before .before .before .before) .pre) .1 .1 .1 .1) (omega arith) ((c .before .before .declarator-at) .ensures) (omega (arith, ((c .before .size) .ensures) .0)))
-      (omega arith)
+    (pattern-at _ 4 _ _ _ ((c .before .before .declarator-at) .result) (((c .before .before .before .before .before .before .before) .pre) .1 .1 .1 .1) (omega arith) ((c .before .before .declarator-at) .ensures) (omega (arith, ((c .before .size) .ensures) .0)))
+    (omega arith)
 
 same-length : tie.Need-same-length Inv-loop μ-loop
 same-length c = omega arith

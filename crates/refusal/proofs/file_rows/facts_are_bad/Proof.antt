@@ -42,8 +42,17 @@ frames-are-good-requires c κs = rw ((c .before .before .before .before .before 
 returns : tie.Need-returns
 unfolding badFacts namesOf scopesOf framesOf
 returns c =
-    rw ((c .before .before .before .before .names-are-good) .ensures, (c .before .before .scopes-are-good) .ensures, (c .frames-are-good) .ensures, (c .before .before .before .before .before .before .part-offsets) .ensures, ((c .before .before .before .before .before .size) .ensures) .0, ((c .before .before .before .size2) .ensures) .0, ((c .before .size3) .ensures) .0, ((c .before .before .before .before .before .before .before .before) .pre) .0,
-      records-length (scopeAt ((c .before .before .before .before .before .before .before .before) .args .file .now)) 4 (headerOf ((c .before .before .before .before .before .before .before .before) .args .file .now) .scopes) (scopesStart (headerOf ((c .before .before .before .before .before .before .before .before) .args .file .now))))
+    rw (
+      (c .before .before .before .before .names-are-good) .ensures,
+      (c .before .before .scopes-are-good) .ensures,
+      (c .frames-are-good) .ensures,
+      (c .before .before .before .before .before .before .part-offsets) .ensures,
+      ((c .before .before .before .before .before .size) .ensures) .0,
+      ((c .before .before .before .size2) .ensures) .0,
+      ((c .before .size3) .ensures) .0,
+      ((c .before .before .before .before .before .before .before .before) .pre) .0,
+      records-length (scopeAt ((c .before .before .before .before .before .before .before .before) .args .file .now)) 4 (headerOf ((c .before .before .before .before .before .before .before .before) .args .file .now) .scopes) (scopesStart (headerOf ((c .before .before .before .before .before .before .before .before) .args .file .now))),
+    )
 
 pub facts-are-bad-spec : {M : Type 1} → statement M
 facts-are-bad-spec =

@@ -37,10 +37,19 @@ add-t11 c = omega (arith, initializers-low _ _ _ _ _ (((c .before .before .befor
 
 returns : tie.Need-returns
 unfolding badScript namesOf declaratorsOf statementsOf
-returns c =
-    (rw (((c .before .before .before .before .before .before .before .declarator-totals) .ensures) .0, ((c .before .before .before .before .before .statement-totals) .ensures) .0, ((c .before .before .before .before .before .statement-totals) .ensures) .1 .0, (c .before .before .before .before .before .before .before .before .before .part-offsets) .ensures, ((c .before .before .before .before .before .before .before .before .size) .ensures) .0, ((c .before .before .before .before .before .before .size2) .ensures) .0, ((c .before .before .before .before .before .before .before .before .before .before .before) .pre) .0,
-      records-length (declaratorAt ((c .before .before .before .before .before .before .before .before .before .before .before) .args .file .now)) 4 (headerOf ((c .before .before .before .before .before .before .before .before .before .before .before) .args .file .now) .declarators) (declaratorsStart (headerOf ((c .before .before .before .before .before .before .before .before .before .before .before) .args .file .now)))),
-    rw (((c .before .before .before .before .before .before .before .declarator-totals) .ensures) .1, ((c .before .before .before .before .before .statement-totals) .ensures) .1 .1, (c .before .before .before .before .before .before .before .before .before .part-offsets) .ensures, ((c .before .before .before .before .before .before .before .before .size) .ensures) .0, ((c .before .before .before .before .before .before .size2) .ensures) .0, ((c .before .before .before .before .before .before .before .before .before .before .before) .pre) .0))
+returns c = (
+  rw (
+    ((c .before .before .before .before .before .before .before .declarator-totals) .ensures) .0,
+    ((c .before .before .before .before .before .statement-totals) .ensures) .0,
+    ((c .before .before .before .before .before .statement-totals) .ensures) .1 .0,
+    (c .before .before .before .before .before .before .before .before .before .part-offsets) .ensures,
+    ((c .before .before .before .before .before .before .before .before .size) .ensures) .0,
+    ((c .before .before .before .before .before .before .size2) .ensures) .0,
+    ((c .before .before .before .before .before .before .before .before .before .before .before) .pre) .0,
+    records-length (declaratorAt ((c .before .before .before .before .before .before .before .before .before .before .before) .args .file .now)) 4 (headerOf ((c .before .before .before .before .before .before .before .before .before .before .before) .args .file .now) .declarators) (declaratorsStart (headerOf ((c .before .before .before .before .before .before .before .before .before .before .before) .args .file .now))),
+  ),
+  rw (((c .before .before .before .before .before .before .before .declarator-totals) .ensures) .1, ((c .before .before .before .before .before .statement-totals) .ensures) .1 .1, (c .before .before .before .before .before .before .before .before .before .part-offsets) .ensures, ((c .before .before .before .before .before .before .before .before .size) .ensures) .0, ((c .before .before .before .before .before .before .size2) .ensures) .0, ((c .before .before .before .before .before .before .before .before .before .before .before) .pre) .0),
+)
 
 pub script-totals-spec : {M : Type 1} → statement M
 script-totals-spec =

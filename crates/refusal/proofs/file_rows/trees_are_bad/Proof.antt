@@ -33,7 +33,7 @@ returns : tie.Need-returns
 unfolding nodesOf
 returns c =
     trees-judged (declaratorsOf ((c .before .before .before .before .before .before .before .before .before .before .before .before) .args .file .now)) (statementsOf ((c .before .before .before .before .before .before .before .before .before .before .before .before) .args .file .now)) _ _ _ _ _ _
-      (((c .before .before .before .before .before .before .tree-totals) .ensures) .0) (omega arith) (((c .before .before .before .before .before .before .tree-totals) .ensures) .1 .1) (((c .before .before .before .before .before .before .before .before .before .before .before .before) .pre) .1 .1 .0) ((c .roots-stand) .ensures)
+    (((c .before .before .before .before .before .before .tree-totals) .ensures) .0) (omega arith) (((c .before .before .before .before .before .before .tree-totals) .ensures) .1 .1) (((c .before .before .before .before .before .before .before .before .before .before .before .before) .pre) .1 .1 .0) ((c .roots-stand) .ensures)
     ∙ ap (badTrees (declaratorsOf ((c .before .before .before .before .before .before .before .before .before .before .before .before) .args .file .now)) (statementsOf ((c .before .before .before .before .before .before .before .before .before .before .before .before) .args .file .now))) (rw ((c .before .before .before .before .before .before .before .before .before .part-offsets) .ensures, ((c .before .before .before .before .before .before .before .before .size) .ensures) .0, ((c .before .before .before .before .before .before .before .before .before .before .before .before) .pre) .0))
 
 pub trees-are-bad-spec : {M : Type 1} → statement M

@@ -41,10 +41,13 @@ sub-t18 c = search needs
 returns : tie.Need-returns
 unfolding childrenStand nodeEntry
 returns c =
-    let part = taken-part ((c .before .before .before .before .before .before .before .before .before) .args .stack .now) ((c .before .before .before .before .before .before .before .before .before) .args .n .children) ((c .before .before .before .before .before .before .before .before .before) .args .top) ((c .before .before .before .before .before .before .least) .result) (omega arith) (omega arith) in
-    (rw ((c .before .before .before .before .before .children-stand) .ensures, part, length-drop ((c .before .before .before .before .before .before .before .before .before) .args .top) ((c .before .before .before .before .before .before .before .before .before) .args .stack .now), ((c .before .before .before .before .before .before .before .size) .ensures) .0),
-    ((c .entry) .ensures ∙ rw ((c .before .before .is-link) .ensures, ((c .before .before .before .wide) .ensures) .0, (c .before .first-is-loose) .ensures, part),
-    omega arith))
+    let part = taken-part ((c .before .before .before .before .before .before .before .before .before) .args .stack .now) ((c .before .before .before .before .before .before .before .before .before) .args .n .children) ((c .before .before .before .before .before .before .before .before .before) .args .top) ((c .before .before .before .before .before .before .least) .result) (omega arith) (omega arith) in (
+      rw ((c .before .before .before .before .before .children-stand) .ensures, part, length-drop ((c .before .before .before .before .before .before .before .before .before) .args .top) ((c .before .before .before .before .before .before .before .before .before) .args .stack .now), ((c .before .before .before .before .before .before .before .size) .ensures) .0),
+      (
+        (c .entry) .ensures ∙ rw ((c .before .before .is-link) .ensures, ((c .before .before .before .wide) .ensures) .0, (c .before .first-is-loose) .ensures, part),
+        omega arith,
+      ),
+    )
 
 pub node-stands-spec : {M : Type 1} → statement M
 node-stands-spec =

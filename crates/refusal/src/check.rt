@@ -1,0 +1,88 @@
+// The refusal table: `refusal` is the public call, and `check` its tests in the table's order.
+ghost use mathlib.Core.Path.{_≡_};
+ghost use Prim.Native.Nat.{_≤_, _<_};
+ghost use lib.ListN.{length};
+ghost use Rattle.records.specs.Refusal.{refusal as refusalOf};
+ghost use Rattle.refusal.specs.Number.{number};
+ghost use Rattle.refusal.specs.Tally.{Tally};
+use crate::answer::Refusal;
+use crate::file_rows::counts_are_bad;
+use crate::file_rows::facts_are_bad;
+use crate::file_rows::names_are_declared_twice;
+use crate::file_rows::nodes_are_bad;
+use crate::file_rows::room_is_short;
+use crate::file_rows::script_totals;
+use crate::file_rows::trees_are_bad;
+use records::header::not_a_script;
+use records::header::other_length;
+use records::header::other_version;
+use records::header::outside_limits;
+use records::layout::header_of;
+
+// The table's tests, over arrays with a place for each node and each name.
+fn check(
+    file: &[u8],
+    room: usize,
+    stack: &mut [u16],
+    reads: &mut [u16],
+    targets: &mut [u16],
+    seen: &mut [u8],
+) -> Refusal
+    requires { ⌜ 3000 ≤ length (now stack) ⌝ }
+    requires { ⌜ 256 ≤ length (now reads) ⌝ }
+    requires { ⌜ 256 ≤ length (now targets) ⌝ }
+    requires { ⌜ 256 ≤ length (now seen) ⌝ }
+    requires { ⌜ length (now seen) < 65535 ⌝ }
+    requires { ⌜ Tally (λ k. 0) (now reads) ⌝ }
+    requires { ⌜ Tally (λ k. 0) (now targets) ⌝ }
+    requires { ⌜ Tally (λ k. 0) (now seen) ⌝ }
+    ensures { λ r. ⌜ number r ≡ refusalOf (now (file .entry)) room ⌝ }
+{
+    if not_a_script(file) {
+        return Refusal::NotAScript;
+    }
+    let h = header_of(file);
+    if other_version(h) {
+        return Refusal::OtherVersion;
+    }
+    if outside_limits(h) {
+        return Refusal::OutsideLimits;
+    }
+    if other_length(file, h) {
+        return Refusal::OtherLength;
+    }
+    if facts_are_bad(file, h) {
+        return Refusal::BadFacts;
+    }
+    let script = script_totals(file, h);
+    if script.bad {
+        return Refusal::BadScript;
+    }
+    if nodes_are_bad(file, h) {
+        return Refusal::BadNodes;
+    }
+    if trees_are_bad(file, h, script.trees, stack) {
+        return Refusal::BadTrees;
+    }
+    if names_are_declared_twice(file, h, seen) {
+        return Refusal::DeclaredTwice;
+    }
+    if counts_are_bad(file, h, reads, targets) {
+        return Refusal::BadCounts;
+    }
+    if room_is_short(file, h, room) {
+        return Refusal::NoRoom;
+    }
+    Refusal::Accepted
+}
+
+// Whether a file and a room for its result are accepted, or the row of the table that refuses them. Any bytes.
+pub fn refusal(file: &[u8], room: usize) -> Refusal
+    ensures { λ r. ⌜ number r ≡ refusalOf (now (file .entry)) room ⌝ }
+{
+    let mut stack = [0u16; 3000];
+    let mut reads = [0u16; 256];
+    let mut targets = [0u16; 256];
+    let mut seen = [0u8; 256];
+    check(file, room, &mut stack, &mut reads, &mut targets, &mut seen)
+}
