@@ -66,7 +66,8 @@ fn outcome(case: &Case, answer: &Answer) -> Outcome {
     }
 }
 
-/// The first case of each sort. The sort of a case is its outcome and whatever else is given for it.
+/// The first case of each sort. The sort of a case is its outcome and whatever else is given for
+/// it.
 struct FirstOfEach<K> {
     seen: HashSet<(K, Outcome)>,
     cases: Vec<Case>,
@@ -124,8 +125,8 @@ fn fact_cases() -> Vec<Case> {
     out
 }
 
-/// The kind above the name and which child the name is; nothing if the tree doesn't hold it below its
-/// root.
+/// The kind above the name and which child the name is; nothing if the tree doesn't hold it below
+/// its root.
 fn place_of_name(tree: &[Node]) -> Option<(u8, u16)> {
     let mut above: Vec<(&Node, u16)> = Vec::new();
     for node in tree {
@@ -143,8 +144,8 @@ fn place_of_name(tree: &[Node]) -> Option<(u8, u16)> {
     None
 }
 
-/// Literal and function count as one, and so do the names without effect. Members and chains tell only
-/// directly below calls and tags.
+/// Literal and function count as one, and so do the names without effect. Members and chains tell
+/// only directly below calls and tags.
 fn initializer_sort(number: usize, place: Option<(u8, u16)>) -> Option<usize> {
     match (number, place) {
         (0 | 1, _) => Some(0),

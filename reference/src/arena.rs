@@ -1,5 +1,5 @@
-//! Stand-ins for the arena types of `oxc_allocator`: a box and a vector with the arena's lifetime in
-//! their type, and `take_in`. Memory comes from the ordinary heap.
+//! Stand-ins for the arena types of `oxc_allocator`: a box and a vector with the arena's lifetime
+//! in their type, and `take_in`. Memory comes from the ordinary heap.
 
 use std::marker::PhantomData;
 use std::ops::{Deref, DerefMut};

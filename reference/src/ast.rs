@@ -1,13 +1,16 @@
 //! The smallest syntax tree over which the carried functions compile, with the names of `oxc_ast`.
 //!
-//! Each node has its place in the source (`span`) and a `note`: what the record file says of the node
-//! and the fold only carries along.
+//! Each node has its place in the source (`span`) and a `note`: what the record file says of the
+//! node and the fold only carries along.
+
+mod statements;
 
 use std::marker::PhantomData;
 
 use crate::arena::{ArenaBox, ArenaVec, TakeIn};
 use crate::context::{ReferenceId, TraverseCtx};
 pub use crate::context::{ScopeId, SymbolId};
+pub use statements::*;
 
 /// The label of the inserted `0`.
 pub const ZERO_LABEL: u16 = 65535;
@@ -512,60 +515,4 @@ impl Expression<'_> {
     pub fn is_marked(&self) -> bool {
         each_kind!(self, _span => false, it => it.note.marked)
     }
-}
-
-#[derive(Clone, Copy, PartialEq, Eq)]
-pub enum VariableDeclarationKind {
-    Var,
-    Let,
-    Const,
-    Using,
-    AwaitUsing,
-}
-
-impl VariableDeclarationKind {
-    pub fn is_var(self) -> bool {
-        self == Self::Var
-    }
-
-    pub fn is_using(self) -> bool {
-        matches!(self, Self::Using | Self::AwaitUsing)
-    }
-}
-
-pub enum Statement<'a> {
-    VariableDeclaration(ArenaBox<'a, VariableDeclaration<'a>>),
-    ExpressionStatement(ArenaBox<'a, ExpressionStatement<'a>>),
-    Other,
-}
-
-pub struct VariableDeclaration<'a> {
-    pub kind: VariableDeclarationKind,
-    pub declarations: ArenaVec<'a, VariableDeclarator<'a>>,
-}
-
-pub struct VariableDeclarator<'a> {
-    pub id: BindingPattern<'a>,
-    pub init: Option<Expression<'a>>,
-}
-
-pub enum BindingPattern<'a> {
-    BindingIdentifier(BindingIdentifier<'a>),
-    /// Any pattern that is no plain name.
-    Pattern,
-}
-
-pub struct BindingIdentifier<'a> {
-    pub name: Ident<'a>,
-}
-
-impl BindingIdentifier<'_> {
-    pub fn symbol_id(&self) -> SymbolId {
-        SymbolId(self.name.number())
-    }
-}
-
-pub struct ExpressionStatement<'a> {
-    pub span: Span,
-    pub expression: Expression<'a>,
 }

@@ -5,11 +5,13 @@
 //! Copyright (c) 2023 Boshen
 //! The licence's text stands in the NOTICE file of this repository.
 //!
-//! Each function stands between a line `origin: <path in the crate> <first line>-<last line>` and a line
-//! `end of origin`. A line that this project put in between ends with `// added`; there is one, the
-//! count of looks. `reference origin <directory of the crate>` compares every function with its origin.
+//! Each function stands between a line `origin: <path in the crate> <first line>-<last line>` and a
+//! line `end of origin`. A line that this project put in between ends with `// added`; there is
+//! one, the count of looks. `reference origin <directory of the crate>` compares every function
+//! with its origin.
 //!
-//! What the functions need of other crates is in `arena.rs`, `ast.rs`, `context.rs` and `effects.rs`.
+//! What the functions need of other crates is in `arena.rs`, `ast.rs`, `context.rs` and
+//! `effects.rs`.
 #![allow(dead_code)] // the functions for merging assignments and joining sequences are switched off
 
 use crate::arena::{ArenaVec, TakeIn};

@@ -146,7 +146,8 @@ fn check_copied_parts(records: &RecordFile, file: &[u8], answer: &Answer) -> Res
     demand(copied, || "facts, scopes, frames or options aren't copied".into())
 }
 
-/// How many runs it takes until nothing changes, the last one counted. Every result is accepted again.
+/// How many runs it takes until nothing changes, the last one counted. Every result is accepted
+/// again.
 fn count_runs(
     records: &RecordFile,
     file: &[u8],

@@ -256,8 +256,8 @@ impl<'a> TraverseCtx<'a> {
 }
 
 impl<'a> PeepholeOptimizations {
-    /// The Rust climbs to the constructor and asks whether its class extends another; the record file
-    /// has the answer.
+    /// The Rust climbs to the constructor and asks whether its class extends another; the record
+    /// file has the answer.
     pub fn derived_constructor_this_scope(ctx: &TraverseCtx<'a>) -> Option<ScopeId> {
         ctx.state.this_scope
     }

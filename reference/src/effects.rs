@@ -1,6 +1,6 @@
 //! The two questions that the crate leaves to `oxc_ecmascript`, answered by the project's own rule:
-//! a node has an effect if it is marked, if it is an await, a yield, an import or an assignment, or if
-//! a child has one; a literal is a literal, and a function is one too where functions count.
+//! a node has an effect if it is marked, if it is an await, a yield, an import or an assignment, or
+//! if a child has one; a literal is a literal, and a function is one too where functions count.
 
 use crate::arena::ArenaVec;
 use crate::ast::*;

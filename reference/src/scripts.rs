@@ -1,5 +1,5 @@
-//! The twelve scripts, each with its text, its file and the file that its fold must give. The results
-//! are put together by hand, not by the fold.
+//! The twelve scripts, each with its text, its file and the file that its fold must give. The
+//! results are put together by hand, not by the fold.
 
 use crate::build::{Line, PLAIN_NAME, Tree, UNRESOLVED_NAME, declared_name, empty_file, push_line};
 use crate::record::*;

@@ -42,10 +42,12 @@ fn check(
         return Refusal::NotAScript;
     }
     let h = header_of(file);
-    if other_version(h) {
+    let other = other_version(h);
+    let outside = outside_limits(h);
+    if other {
         return Refusal::OtherVersion;
     }
-    if outside_limits(h) {
+    if outside {
         return Refusal::OutsideLimits;
     }
     if other_length(file, h) {

@@ -1,5 +1,5 @@
-//! Takes the statements of a file through the carried functions, in order. It stands below `carried`
-//! because those functions are private to their file, as in the crate.
+//! Takes the statements of a file through the carried functions, in order. It stands below
+//! `carried` because those functions are private to their file, as in the crate.
 
 use super::PeepholeOptimizations;
 use crate::arena::{ArenaBox, ArenaVec};
@@ -22,7 +22,9 @@ pub fn fold_statements<'a>(
     result
 }
 
-/// The head of the crate's `handle_variable_declaration`, then the push.
+/// The head of the crate's `handle_variable_declaration` (src/peephole/minimize_statements.rs
+/// 216-232), then the push. The merge between its two searches is left out, and where the crate
+/// passes `false` the file's option decides.
 fn handle_declaration<'a>(
     mut declaration: ArenaBox<'a, VariableDeclaration<'a>>,
     result: &mut ArenaVec<'a, Statement<'a>>,
@@ -47,7 +49,8 @@ fn handle_declaration<'a>(
     result.push(Statement::VariableDeclaration(declaration));
 }
 
-/// The head of the crate's `handle_expression_statement`, then the push.
+/// The head of the crate's `handle_expression_statement` (src/peephole/minimize_statements.rs
+/// 282-293), then the push.
 fn handle_expression<'a>(
     mut statement: ArenaBox<'a, ExpressionStatement<'a>>,
     result: &mut ArenaVec<'a, Statement<'a>>,

@@ -1,4 +1,5 @@
-//! The whole check: scripts, numbers worked out by hand, kept answers, and what must hold of every fold.
+//! The whole check: scripts, numbers worked out by hand, kept answers, and what must hold of every
+//! fold.
 
 use std::fs;
 use std::path::Path;

@@ -110,66 +110,64 @@ impl Trees<'_> {
             kind::TEMPLATE => Expression::TemplateLiteral(self.template(&it)),
             kind::TAGGED_TEMPLATE => Expression::TaggedTemplateExpression(self.tagged(&it)),
             kind::SEQUENCE => Expression::SequenceExpression(self.sequence(&it)),
-            _ => self.fixed(&it),
+            kind::BINARY | kind::LOGICAL | kind::CONDITIONAL => self.operands(&it),
+            _ => self.operand(&it),
         }
     }
 
-    /// The kinds whose children are expressions at fixed places, and the chain.
-    fn fixed<'a>(&mut self, it: &Node) -> Expression<'a> {
+    /// The kinds over a single expression.
+    fn operand<'a>(&mut self, it: &Node) -> Expression<'a> {
         let (span, note) = (span(it), note(it));
+        if it.kind == kind::YIELD {
+            let argument = (it.children == 1).then(|| self.expression());
+            let it = YieldExpression { span, note, argument };
+            return Expression::YieldExpression(ArenaBox::new(it));
+        }
+        let argument = self.expression();
         match it.kind {
             kind::AWAIT => {
-                let argument = self.expression();
                 Expression::AwaitExpression(ArenaBox::new(AwaitExpression { span, note, argument }))
             }
-            kind::YIELD => {
-                let argument = (it.children == 1).then(|| self.expression());
-                Expression::YieldExpression(ArenaBox::new(YieldExpression { span, note, argument }))
-            }
             kind::IMPORT => {
-                let source = self.expression();
-                Expression::ImportExpression(ArenaBox::new(ImportExpression { span, note, source }))
+                let it = ImportExpression { span, note, source: argument };
+                Expression::ImportExpression(ArenaBox::new(it))
             }
-            kind::UNARY => Expression::UnaryExpression(ArenaBox::new(UnaryExpression {
-                span,
-                note,
-                operator: UnaryOperator(it.label),
-                argument: self.expression(),
-            })),
-            kind::CHAIN => Expression::ChainExpression(ArenaBox::new(ChainExpression {
-                span,
-                note,
-                expression: self.expression().into_chain_element().expect("the child was checked"),
-            })),
-            kind::BINARY => Expression::BinaryExpression(ArenaBox::new(BinaryExpression {
-                span,
-                note,
-                left: self.expression(),
-                right: self.expression(),
-            })),
-            kind::LOGICAL => Expression::LogicalExpression(ArenaBox::new(LogicalExpression {
-                span,
-                note,
-                left: self.expression(),
-                right: self.expression(),
-            })),
+            kind::UNARY => {
+                let operator = UnaryOperator(it.label);
+                let it = UnaryExpression { span, note, operator, argument };
+                Expression::UnaryExpression(ArenaBox::new(it))
+            }
+            kind::CHAIN => {
+                let expression = argument.into_chain_element().expect("the child was checked");
+                let it = ChainExpression { span, note, expression };
+                Expression::ChainExpression(ArenaBox::new(it))
+            }
             kind::PRIVATE_IN => {
-                Expression::PrivateInExpression(ArenaBox::new(PrivateInExpression {
-                    span,
-                    note,
-                    right: self.expression(),
-                }))
-            }
-            kind::CONDITIONAL => {
-                Expression::ConditionalExpression(ArenaBox::new(ConditionalExpression {
-                    span,
-                    note,
-                    test: self.expression(),
-                    consequent: self.expression(),
-                    alternate: self.expression(),
-                }))
+                let it = PrivateInExpression { span, note, right: argument };
+                Expression::PrivateInExpression(ArenaBox::new(it))
             }
             other => unreachable!("no expression has kind {other}"),
+        }
+    }
+
+    /// The kinds over two or three expressions.
+    fn operands<'a>(&mut self, it: &Node) -> Expression<'a> {
+        let (span, note) = (span(it), note(it));
+        let (first, second) = (self.expression(), self.expression());
+        match it.kind {
+            kind::BINARY => {
+                let it = BinaryExpression { span, note, left: first, right: second };
+                Expression::BinaryExpression(ArenaBox::new(it))
+            }
+            kind::LOGICAL => {
+                let it = LogicalExpression { span, note, left: first, right: second };
+                Expression::LogicalExpression(ArenaBox::new(it))
+            }
+            _ => {
+                let (test, consequent, alternate) = (first, second, self.expression());
+                let it = ConditionalExpression { span, note, test, consequent, alternate };
+                Expression::ConditionalExpression(ArenaBox::new(it))
+            }
         }
     }
 

@@ -1,4 +1,5 @@
-//! The records of a file from its statements and trees. Facts, scopes, frames and options are copied.
+//! The records of a file from its statements and trees. Facts, scopes, frames and options are
+//! copied.
 
 use crate::arena::ArenaVec;
 use crate::ast::*;

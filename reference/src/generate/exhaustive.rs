@@ -314,8 +314,9 @@ pub fn small_files(nodes: usize, emit: Emit) {
     each_tree(nodes, &mut |tree| with_each_initializer(tree, emit));
 }
 
-/// Every file whose searched tree is `(<tree>, v)` or `[<tree>, v]`, where the first has up to so many
-/// nodes and doesn't hold the name: whether the name is reached tells whether the tree is passed.
+/// Every file whose searched tree is `(<tree>, v)` or `[<tree>, v]`, where the first has up to so
+/// many nodes and doesn't hold the name: whether the name is reached tells whether the tree is
+/// passed.
 pub fn passed_files(nodes: usize, emit: Emit) {
     let last = head(kind::NAME, 0, SEARCHED, &[]).node;
     each_tree(nodes, &mut |tree| {

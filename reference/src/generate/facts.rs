@@ -1,7 +1,7 @@
 //! Every choice of the facts that a search asks for, over the smallest trees that tell the answer.
 //!
-//! A table has factors, each with its values; the first value of each makes up a file that folds. Files
-//! that differ from it in one factor are the near misses; most of the others stand in bulk.
+//! A table has factors, each with its values; the first value of each makes up a file that folds.
+//! Files that differ from it in one factor are the near misses; most of the others stand in bulk.
 
 mod declarators;
 mod names;

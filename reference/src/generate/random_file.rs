@@ -35,7 +35,8 @@ pub fn random_file(seed: u64, case: u64, size: usize) -> RecordFile {
     file
 }
 
-/// Labels that the fold only carries. Those of names, targets and operators mean something and stay.
+/// Labels that the fold only carries. Those of names, targets and operators mean something and
+/// stay.
 fn choose_labels(random: &mut Random, nodes: &mut [Node]) {
     for node in nodes {
         if !matches!(node.kind, kind::NAME | kind::TARGET_NAME | kind::UNARY) {

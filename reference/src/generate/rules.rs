@@ -1,8 +1,8 @@
-//! Each rule of the search with the inputs next to it on either side. How many folds there must be is
-//! worked out by hand.
+//! Each rule of the search with the inputs next to it on either side. How many folds there must be
+//! is worked out by hand.
 //!
-//! In the texts `a` and `b` are settled, `u` is unresolved, `w` is written to, and a call `f()` or a node
-//! with `!` behind it is marked.
+//! In the texts `a` and `b` are settled, `u` is unresolved, `w` is written to, and a call `f()` or
+//! a node with `!` behind it is marked.
 
 mod lists;
 mod passed;

@@ -1,5 +1,5 @@
-//! The four shapes at which the Rust and ECMA-262 part, each as small as it can be. The Rust folds them
-//! all.
+//! The four shapes at which the Rust and ECMA-262 part, each as small as it can be. The Rust folds
+//! them all.
 
 use crate::build::{Line, PLAIN_NAME, Tree, UNRESOLVED_NAME, declared_name, empty_file, push_line};
 use crate::record::*;

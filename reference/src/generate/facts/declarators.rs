@@ -71,8 +71,8 @@ fn file(choice: [usize; 7]) -> RecordFile {
     file
 }
 
-/// Read once, not read, read twice, written, unrecorded, catch, observable, mutated but not written,
-/// import, and for a pattern.
+/// Read once, not read, read twice, written, unrecorded, catch, observable, mutated but not
+/// written, import, and for a pattern.
 fn name_of(binding: usize) -> Name {
     let flags = name::BLOCK_SCOPED | name::RECORDED;
     let good = Name { flags, scope: 0, reads: 1, writes: 0 };
@@ -104,7 +104,8 @@ fn initializer_of(value: usize) -> Option<Tree> {
     }
 }
 
-/// No script: scope 1 within 0, direct eval there, direct eval outside, scope 0. A script: scope 1, scope 0.
+/// No script: scope 1 within 0, direct eval there, direct eval outside, scope 0. A script: scope 1,
+/// scope 0.
 fn choose_scope(value: usize, file: &mut RecordFile) {
     file.scopes.push(Scope { parent: 0, flags: 0 });
     file.current_scope = if matches!(value, 3 | 5) { 0 } else { 1 };
@@ -116,8 +117,8 @@ fn choose_scope(value: usize, file: &mut RecordFile) {
     }
 }
 
-/// The tree as an expression statement, as the initializer of the next declaration and of the next using,
-/// and as that of the same declaration's next declarator.
+/// The tree as an expression statement, as the initializer of the next declaration and of the next
+/// using, and as that of the same declaration's next declarator.
 fn lines(kind: u8, declarator: (u16, Option<Tree>), tree: Tree, place: usize) -> Vec<Line> {
     let next = (NEXT, Some(tree.clone()));
     let of = |kind: u8, declarators: Vec<_>| Line::Declaration { kind, declarators };

@@ -52,8 +52,8 @@ fn file(choice: [usize; 7]) -> RecordFile {
     file
 }
 
-/// Block scoped, var, neither, unresolved, `eval`; unrecorded, the same and mutated, recorded, written,
-/// recorded and mutated but not written.
+/// Block scoped, var, neither, unresolved, `eval`; unrecorded, the same and mutated, recorded,
+/// written, recorded and mutated but not written.
 fn name_of(sort: usize, import: bool, record: usize, scope: u16) -> Name {
     let sorts = [name::BLOCK_SCOPED, name::VAR, 0, name::UNRESOLVED, name::UNRESOLVED | name::EVAL];
     let sort = sorts[sort];

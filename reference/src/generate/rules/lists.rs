@@ -69,7 +69,8 @@ fn object<const N: usize>(items: [Tree; N]) -> Tree {
     node(kind::OBJECT, items)
 }
 
-/// A computed key and a spread stop even a literal; a shorthand that gives an answer is one no longer.
+/// A computed key and a spread stop even a literal; a shorthand that gives an answer is one no
+/// longer.
 pub fn objects() -> Vec<Rule> {
     let (short, computed, proto) = (flag::SHORTHAND, flag::COMPUTED, flag::PROTO);
     let last = || property(0, [v()]);

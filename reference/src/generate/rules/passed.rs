@@ -31,7 +31,8 @@ pub fn leaves() -> Vec<Rule> {
     ]
 }
 
-/// Await, yield, import and assignment have an effect unmarked; only an import is passed all the same.
+/// Await, yield, import and assignment have an effect unmarked; only an import is passed all the
+/// same.
 pub fn effects() -> Vec<Rule> {
     let wait = |child: Tree| node(kind::AWAIT, [child]);
     let gives = |child: Tree| node(kind::YIELD, [child]);

@@ -22,57 +22,57 @@ header-of-requires c κs = long-enough ((c .before .before .before .before .befo
 other-version-requires : tie.Need-other-version-requires
 other-version-requires c κs = search needs
 
-returns-2 : tie.Need-returns-2
-unfolding refusal number
-returns-2 c = rw (← (c .before .before .before .before .not-a-script) .ensures, (c .before .before .before .if1) .left, ← (c .before .before .header-of) .ensures, ← (c .before .other-version) .ensures, (c .if2) .taken)
-
 outside-limits-requires : tie.Need-outside-limits-requires
 outside-limits-requires c κs = search needs
 
+returns-2 : tie.Need-returns-2
+unfolding refusal number
+returns-2 c = rw (← (c .before .before .before .before .before .not-a-script) .ensures, (c .before .before .before .before .if1) .left, ← (c .before .before .before .header-of) .ensures, ← (c .before .before .other-version) .ensures, (c .if2) .taken)
+
 returns-3 : tie.Need-returns-3
 unfolding refusal number
-returns-3 c = rw (← (c .before .before .before .before .before .before .not-a-script) .ensures, (c .before .before .before .before .before .if1) .left, ← (c .before .before .before .before .header-of) .ensures, ← (c .before .before .before .other-version) .ensures, (c .before .before .if2) .left, ← (c .before .outside-limits) .ensures, (c .if3) .taken)
+returns-3 c = rw (← (c .before .before .before .before .before .before .not-a-script) .ensures, (c .before .before .before .before .before .if1) .left, ← (c .before .before .before .before .header-of) .ensures, ← (c .before .before .before .other-version) .ensures, (c .before .if2) .left, ← (c .before .before .outside-limits) .ensures, (c .if3) .taken)
 
 other-length-requires : tie.Need-other-length-requires
 other-length-requires c κs = search needs
 
 returns-4 : tie.Need-returns-4
 unfolding refusal number
-returns-4 c = rw (← (c .before .before .before .before .before .before .before .before .not-a-script) .ensures, (c .before .before .before .before .before .before .before .if1) .left, ← (c .before .before .before .before .before .before .header-of) .ensures, ← (c .before .before .before .before .before .other-version) .ensures, (c .before .before .before .before .if2) .left, ← (c .before .before .before .outside-limits) .ensures, (c .before .before .if3) .left, ← (c .before .other-length) .ensures, (c .if4) .taken)
+returns-4 c = rw (← (c .before .before .before .before .before .before .before .before .not-a-script) .ensures, (c .before .before .before .before .before .before .before .if1) .left, ← (c .before .before .before .before .before .before .header-of) .ensures, ← (c .before .before .before .before .before .other-version) .ensures, (c .before .before .before .if2) .left, ← (c .before .before .before .before .outside-limits) .ensures, (c .before .before .if3) .left, ← (c .before .other-length) .ensures, (c .if4) .taken)
 
 facts-are-bad-requires : tie.Need-facts-are-bad-requires
 facts-are-bad-requires c κs = ((c .before .before .before .before .before .before .header-of) .ensures, length-said ((c .before .before .before .before .before .before .before .before .before .before .before .before .before .before) .args .file .now) ((c .before .before .before .before .before .before .header-of) .result) (sym ((c .before .other-length) .ensures) ∙ (c .if4) .left))
 
 returns-5 : tie.Need-returns-5
 unfolding refusal number
-returns-5 c = rw (← (c .before .before .before .before .before .before .before .before .before .before .not-a-script) .ensures, (c .before .before .before .before .before .before .before .before .before .if1) .left, ← (c .before .before .before .before .before .before .before .before .header-of) .ensures, ← (c .before .before .before .before .before .before .before .other-version) .ensures, (c .before .before .before .before .before .before .if2) .left, ← (c .before .before .before .before .before .outside-limits) .ensures, (c .before .before .before .before .if3) .left, ← (c .before .before .before .other-length) .ensures, (c .before .before .if4) .left, ← (c .before .facts-are-bad) .ensures, (c .if5) .taken)
+returns-5 c = rw (← (c .before .before .before .before .before .before .before .before .before .before .not-a-script) .ensures, (c .before .before .before .before .before .before .before .before .before .if1) .left, ← (c .before .before .before .before .before .before .before .before .header-of) .ensures, ← (c .before .before .before .before .before .before .before .other-version) .ensures, (c .before .before .before .before .before .if2) .left, ← (c .before .before .before .before .before .before .outside-limits) .ensures, (c .before .before .before .before .if3) .left, ← (c .before .before .before .other-length) .ensures, (c .before .before .if4) .left, ← (c .before .facts-are-bad) .ensures, (c .if5) .taken)
 
 script-totals-requires : tie.Need-script-totals-requires
 script-totals-requires c κs = ((c .before .before .before .before .before .before .before .before .header-of) .ensures, length-said ((c .before .before .before .before .before .before .before .before .before .before .before .before .before .before .before .before) .args .file .now) ((c .before .before .before .before .before .before .before .before .header-of) .result) (sym ((c .before .before .before .other-length) .ensures) ∙ (c .before .before .if4) .left))
 
 returns-6 : tie.Need-returns-6
 unfolding refusal number
-returns-6 c = rw (← (c .before .before .before .before .before .before .before .before .before .before .before .before .not-a-script) .ensures, (c .before .before .before .before .before .before .before .before .before .before .before .if1) .left, ← (c .before .before .before .before .before .before .before .before .before .before .header-of) .ensures, ← (c .before .before .before .before .before .before .before .before .before .other-version) .ensures, (c .before .before .before .before .before .before .before .before .if2) .left, ← (c .before .before .before .before .before .before .before .outside-limits) .ensures, (c .before .before .before .before .before .before .if3) .left, ← (c .before .before .before .before .before .other-length) .ensures, (c .before .before .before .before .if4) .left, ← (c .before .before .before .facts-are-bad) .ensures, (c .before .before .if5) .left, ← ((c .before .script-totals) .ensures) .0, (c .if6) .taken)
+returns-6 c = rw (← (c .before .before .before .before .before .before .before .before .before .before .before .before .not-a-script) .ensures, (c .before .before .before .before .before .before .before .before .before .before .before .if1) .left, ← (c .before .before .before .before .before .before .before .before .before .before .header-of) .ensures, ← (c .before .before .before .before .before .before .before .before .before .other-version) .ensures, (c .before .before .before .before .before .before .before .if2) .left, ← (c .before .before .before .before .before .before .before .before .outside-limits) .ensures, (c .before .before .before .before .before .before .if3) .left, ← (c .before .before .before .before .before .other-length) .ensures, (c .before .before .before .before .if4) .left, ← (c .before .before .before .facts-are-bad) .ensures, (c .before .before .if5) .left, ← ((c .before .script-totals) .ensures) .0, (c .if6) .taken)
 
 nodes-are-bad-requires : tie.Need-nodes-are-bad-requires
 nodes-are-bad-requires c κs = ((c .before .before .before .before .before .before .before .before .before .before .header-of) .ensures, length-said ((c .before .before .before .before .before .before .before .before .before .before .before .before .before .before .before .before .before .before) .args .file .now) ((c .before .before .before .before .before .before .before .before .before .before .header-of) .result) (sym ((c .before .before .before .before .before .other-length) .ensures) ∙ (c .before .before .before .before .if4) .left))
 
 returns-7 : tie.Need-returns-7
 unfolding refusal number
-returns-7 c = rw (← (c .before .before .before .before .before .before .before .before .before .before .before .before .before .before .not-a-script) .ensures, (c .before .before .before .before .before .before .before .before .before .before .before .before .before .if1) .left, ← (c .before .before .before .before .before .before .before .before .before .before .before .before .header-of) .ensures, ← (c .before .before .before .before .before .before .before .before .before .before .before .other-version) .ensures, (c .before .before .before .before .before .before .before .before .before .before .if2) .left, ← (c .before .before .before .before .before .before .before .before .before .outside-limits) .ensures, (c .before .before .before .before .before .before .before .before .if3) .left, ← (c .before .before .before .before .before .before .before .other-length) .ensures, (c .before .before .before .before .before .before .if4) .left, ← (c .before .before .before .before .before .facts-are-bad) .ensures, (c .before .before .before .before .if5) .left, ← ((c .before .before .before .script-totals) .ensures) .0, (c .before .before .if6) .left, ← (c .before .nodes-are-bad) .ensures, (c .if7) .taken)
+returns-7 c = rw (← (c .before .before .before .before .before .before .before .before .before .before .before .before .before .before .not-a-script) .ensures, (c .before .before .before .before .before .before .before .before .before .before .before .before .before .if1) .left, ← (c .before .before .before .before .before .before .before .before .before .before .before .before .header-of) .ensures, ← (c .before .before .before .before .before .before .before .before .before .before .before .other-version) .ensures, (c .before .before .before .before .before .before .before .before .before .if2) .left, ← (c .before .before .before .before .before .before .before .before .before .before .outside-limits) .ensures, (c .before .before .before .before .before .before .before .before .if3) .left, ← (c .before .before .before .before .before .before .before .other-length) .ensures, (c .before .before .before .before .before .before .if4) .left, ← (c .before .before .before .before .before .facts-are-bad) .ensures, (c .before .before .before .before .if5) .left, ← ((c .before .before .before .script-totals) .ensures) .0, (c .before .before .if6) .left, ← (c .before .nodes-are-bad) .ensures, (c .if7) .taken)
 
 trees-are-bad-requires : tie.Need-trees-are-bad-requires
-trees-are-bad-requires c κs = ((c .before .before .before .before .before .before .before .before .before .before .before .before .before .header-of) .ensures, (length-said ((c .before .before .before .before .before .before .before .before .before .before .before .before .before .before .before .before .before .before .before .before .before) .args .file .now) ((c .before .before .before .before .before .before .before .before .before .before .before .before .before .header-of) .result) (sym ((c .before .before .before .before .before .before .before .before .other-length) .ensures) ∙ (c .before .before .before .before .before .before .before .if4) .left), (((c .before .before .before .before .script-totals) .ensures) .1, omega (arith, nodes-fit ((c .before .before .before .before .before .before .before .before .before .before .before .before .before .header-of) .result) (sym ((c .before .before .before .before .before .before .before .before .before .before .outside-limits) .ensures) ∙ (c .before .before .before .before .before .before .before .before .before .if3) .left)))))
+trees-are-bad-requires c κs = ((c .before .before .before .before .before .before .before .before .before .before .before .before .before .header-of) .ensures, (length-said ((c .before .before .before .before .before .before .before .before .before .before .before .before .before .before .before .before .before .before .before .before .before) .args .file .now) ((c .before .before .before .before .before .before .before .before .before .before .before .before .before .header-of) .result) (sym ((c .before .before .before .before .before .before .before .before .other-length) .ensures) ∙ (c .before .before .before .before .before .before .before .if4) .left), (((c .before .before .before .before .script-totals) .ensures) .1, omega (arith, nodes-fit ((c .before .before .before .before .before .before .before .before .before .before .before .before .before .header-of) .result) (sym ((c .before .before .before .before .before .before .before .before .before .before .before .outside-limits) .ensures) ∙ (c .before .before .before .before .before .before .before .before .before .if3) .left)))))
 
 same-length : tie.Need-same-length
 same-length c = search needs
 
 returns-8 : tie.Need-returns-8
 unfolding refusal number
-returns-8 c = rw (← (c .before .before .before .before .before .before .before .before .before .before .before .before .before .before .before .before .before .before .before .not-a-script) .ensures, (c .before .before .before .before .before .before .before .before .before .before .before .before .before .before .before .before .before .before .if1) .left, ← (c .before .before .before .before .before .before .before .before .before .before .before .before .before .before .before .before .before .header-of) .ensures, ← (c .before .before .before .before .before .before .before .before .before .before .before .before .before .before .before .before .other-version) .ensures, (c .before .before .before .before .before .before .before .before .before .before .before .before .before .before .before .if2) .left, ← (c .before .before .before .before .before .before .before .before .before .before .before .before .before .before .outside-limits) .ensures, (c .before .before .before .before .before .before .before .before .before .before .before .before .before .if3) .left, ← (c .before .before .before .before .before .before .before .before .before .before .before .before .other-length) .ensures, (c .before .before .before .before .before .before .before .before .before .before .before .if4) .left, ← (c .before .before .before .before .before .before .before .before .before .before .facts-are-bad) .ensures, (c .before .before .before .before .before .before .before .before .before .if5) .left, ← ((c .before .before .before .before .before .before .before .before .script-totals) .ensures) .0, (c .before .before .before .before .before .before .before .if6) .left, ← (c .before .before .before .before .before .before .nodes-are-bad) .ensures, (c .before .before .before .before .before .if7) .left, ← (c .before .before .before .trees-are-bad) .ensures, (c .if8) .taken)
+returns-8 c = rw (← (c .before .before .before .before .before .before .before .before .before .before .before .before .before .before .before .before .before .before .before .not-a-script) .ensures, (c .before .before .before .before .before .before .before .before .before .before .before .before .before .before .before .before .before .before .if1) .left, ← (c .before .before .before .before .before .before .before .before .before .before .before .before .before .before .before .before .before .header-of) .ensures, ← (c .before .before .before .before .before .before .before .before .before .before .before .before .before .before .before .before .other-version) .ensures, (c .before .before .before .before .before .before .before .before .before .before .before .before .before .before .if2) .left, ← (c .before .before .before .before .before .before .before .before .before .before .before .before .before .before .before .outside-limits) .ensures, (c .before .before .before .before .before .before .before .before .before .before .before .before .before .if3) .left, ← (c .before .before .before .before .before .before .before .before .before .before .before .before .other-length) .ensures, (c .before .before .before .before .before .before .before .before .before .before .before .if4) .left, ← (c .before .before .before .before .before .before .before .before .before .before .facts-are-bad) .ensures, (c .before .before .before .before .before .before .before .before .before .if5) .left, ← ((c .before .before .before .before .before .before .before .before .script-totals) .ensures) .0, (c .before .before .before .before .before .before .before .if6) .left, ← (c .before .before .before .before .before .before .nodes-are-bad) .ensures, (c .before .before .before .before .before .if7) .left, ← (c .before .before .before .trees-are-bad) .ensures, (c .if8) .taken)
 
 names-are-declared-twice-requires : tie.Need-names-are-declared-twice-requires
-names-are-declared-twice-requires c κs = ((c .before .before .before .before .before .before .before .before .before .before .before .before .before .before .before .before .before .before .header-of) .ensures, (length-said ((c .before .before .before .before .before .before .before .before .before .before .before .before .before .before .before .before .before .before .before .before .before .before .before .before .before .before) .args .file .now) ((c .before .before .before .before .before .before .before .before .before .before .before .before .before .before .before .before .before .before .header-of) .result) (sym ((c .before .before .before .before .before .before .before .before .before .before .before .before .before .other-length) .ensures) ∙ (c .before .before .before .before .before .before .before .before .before .before .before .before .if4) .left), (file-declarators-fit ((c .before .before .before .before .before .before .before .before .before .before .before .before .before .before .before .before .before .before .before .before .before .before .before .before .before .before) .args .file .now) ((c .before .before .before .before .before .before .before .before .before .before .before .before .before .before .before .before .before .before .header-of) .result) ((c .before .before .before .before .before .before .before .before .before .before .before .before .before .before .before .before .before .before .header-of) .ensures) (sym ((c .before .before .before .before .before .before .before .before .before .before .before .before .before .before .before .outside-limits) .ensures) ∙ (c .before .before .before .before .before .before .before .before .before .before .before .before .before .before .if3) .left) (sym (((c .before .before .before .before .before .before .before .before .before .script-totals) .ensures) .0) ∙ (c .before .before .before .before .before .before .before .before .if6) .left), (((c .before .before .before .before .before .before .before .before .before .before .before .before .before .before .before .before .before .before .before .before .before .before .before .before .before .before) .pre) .1 .1 .1 .0, (((c .before .before .before .before .before .before .before .before .before .before .before .before .before .before .before .before .before .before .before .before .before .before .before .before .before .before) .pre) .1 .1 .1 .1 .0, ((c .before .before .before .before .before .before .before .before .before .before .before .before .before .before .before .before .before .before .before .before .before .before .before .before .before .before) .pre) .1 .1 .1 .1 .1 .1 .1)))))
+names-are-declared-twice-requires c κs = ((c .before .before .before .before .before .before .before .before .before .before .before .before .before .before .before .before .before .before .header-of) .ensures, (length-said ((c .before .before .before .before .before .before .before .before .before .before .before .before .before .before .before .before .before .before .before .before .before .before .before .before .before .before) .args .file .now) ((c .before .before .before .before .before .before .before .before .before .before .before .before .before .before .before .before .before .before .header-of) .result) (sym ((c .before .before .before .before .before .before .before .before .before .before .before .before .before .other-length) .ensures) ∙ (c .before .before .before .before .before .before .before .before .before .before .before .before .if4) .left), (file-declarators-fit ((c .before .before .before .before .before .before .before .before .before .before .before .before .before .before .before .before .before .before .before .before .before .before .before .before .before .before) .args .file .now) ((c .before .before .before .before .before .before .before .before .before .before .before .before .before .before .before .before .before .before .header-of) .result) ((c .before .before .before .before .before .before .before .before .before .before .before .before .before .before .before .before .before .before .header-of) .ensures) (sym ((c .before .before .before .before .before .before .before .before .before .before .before .before .before .before .before .before .outside-limits) .ensures) ∙ (c .before .before .before .before .before .before .before .before .before .before .before .before .before .before .if3) .left) (sym (((c .before .before .before .before .before .before .before .before .before .script-totals) .ensures) .0) ∙ (c .before .before .before .before .before .before .before .before .if6) .left), (((c .before .before .before .before .before .before .before .before .before .before .before .before .before .before .before .before .before .before .before .before .before .before .before .before .before .before) .pre) .1 .1 .1 .0, (((c .before .before .before .before .before .before .before .before .before .before .before .before .before .before .before .before .before .before .before .before .before .before .before .before .before .before) .pre) .1 .1 .1 .1 .0, ((c .before .before .before .before .before .before .before .before .before .before .before .before .before .before .before .before .before .before .before .before .before .before .before .before .before .before) .pre) .1 .1 .1 .1 .1 .1 .1)))))
 
 same-length-2 : tie.Need-same-length-2
 same-length-2 c = search needs
@@ -82,10 +82,10 @@ same-length-3 c = search needs
 
 returns-9 : tie.Need-returns-9
 unfolding refusal number
-returns-9 c = rw (← (c .before .before .before .before .before .before .before .before .before .before .before .before .before .before .before .before .before .before .before .before .before .before .before .before .not-a-script) .ensures, (c .before .before .before .before .before .before .before .before .before .before .before .before .before .before .before .before .before .before .before .before .before .before .before .if1) .left, ← (c .before .before .before .before .before .before .before .before .before .before .before .before .before .before .before .before .before .before .before .before .before .before .header-of) .ensures, ← (c .before .before .before .before .before .before .before .before .before .before .before .before .before .before .before .before .before .before .before .before .before .other-version) .ensures, (c .before .before .before .before .before .before .before .before .before .before .before .before .before .before .before .before .before .before .before .before .if2) .left, ← (c .before .before .before .before .before .before .before .before .before .before .before .before .before .before .before .before .before .before .before .outside-limits) .ensures, (c .before .before .before .before .before .before .before .before .before .before .before .before .before .before .before .before .before .before .if3) .left, ← (c .before .before .before .before .before .before .before .before .before .before .before .before .before .before .before .before .before .other-length) .ensures, (c .before .before .before .before .before .before .before .before .before .before .before .before .before .before .before .before .if4) .left, ← (c .before .before .before .before .before .before .before .before .before .before .before .before .before .before .before .facts-are-bad) .ensures, (c .before .before .before .before .before .before .before .before .before .before .before .before .before .before .if5) .left, ← ((c .before .before .before .before .before .before .before .before .before .before .before .before .before .script-totals) .ensures) .0, (c .before .before .before .before .before .before .before .before .before .before .before .before .if6) .left, ← (c .before .before .before .before .before .before .before .before .before .before .before .nodes-are-bad) .ensures, (c .before .before .before .before .before .before .before .before .before .before .if7) .left, ← (c .before .before .before .before .before .before .before .before .trees-are-bad) .ensures, (c .before .before .before .before .before .if8) .left, ← (c .before .before .before .names-are-declared-twice) .ensures, (c .if9) .taken)
+returns-9 c = rw (← (c .before .before .before .before .before .before .before .before .before .before .before .before .before .before .before .before .before .before .before .before .before .before .before .before .not-a-script) .ensures, (c .before .before .before .before .before .before .before .before .before .before .before .before .before .before .before .before .before .before .before .before .before .before .before .if1) .left, ← (c .before .before .before .before .before .before .before .before .before .before .before .before .before .before .before .before .before .before .before .before .before .before .header-of) .ensures, ← (c .before .before .before .before .before .before .before .before .before .before .before .before .before .before .before .before .before .before .before .before .before .other-version) .ensures, (c .before .before .before .before .before .before .before .before .before .before .before .before .before .before .before .before .before .before .before .if2) .left, ← (c .before .before .before .before .before .before .before .before .before .before .before .before .before .before .before .before .before .before .before .before .outside-limits) .ensures, (c .before .before .before .before .before .before .before .before .before .before .before .before .before .before .before .before .before .before .if3) .left, ← (c .before .before .before .before .before .before .before .before .before .before .before .before .before .before .before .before .before .other-length) .ensures, (c .before .before .before .before .before .before .before .before .before .before .before .before .before .before .before .before .if4) .left, ← (c .before .before .before .before .before .before .before .before .before .before .before .before .before .before .before .facts-are-bad) .ensures, (c .before .before .before .before .before .before .before .before .before .before .before .before .before .before .if5) .left, ← ((c .before .before .before .before .before .before .before .before .before .before .before .before .before .script-totals) .ensures) .0, (c .before .before .before .before .before .before .before .before .before .before .before .before .if6) .left, ← (c .before .before .before .before .before .before .before .before .before .before .before .nodes-are-bad) .ensures, (c .before .before .before .before .before .before .before .before .before .before .if7) .left, ← (c .before .before .before .before .before .before .before .before .trees-are-bad) .ensures, (c .before .before .before .before .before .if8) .left, ← (c .before .before .before .names-are-declared-twice) .ensures, (c .if9) .taken)
 
 counts-are-bad-requires : tie.Need-counts-are-bad-requires
-counts-are-bad-requires c κs = ((c .before .before .before .before .before .before .before .before .before .before .before .before .before .before .before .before .before .before .before .before .before .before .before .before .header-of) .ensures, (length-said ((c .before .before .before .before .before .before .before .before .before .before .before .before .before .before .before .before .before .before .before .before .before .before .before .before .before .before .before .before .before .before .before .before) .args .file .now) ((c .before .before .before .before .before .before .before .before .before .before .before .before .before .before .before .before .before .before .before .before .before .before .before .before .header-of) .result) (sym ((c .before .before .before .before .before .before .before .before .before .before .before .before .before .before .before .before .before .before .before .other-length) .ensures) ∙ (c .before .before .before .before .before .before .before .before .before .before .before .before .before .before .before .before .before .before .if4) .left), (le-trans (names-fit ((c .before .before .before .before .before .before .before .before .before .before .before .before .before .before .before .before .before .before .before .before .before .before .before .before .header-of) .result) (sym ((c .before .before .before .before .before .before .before .before .before .before .before .before .before .before .before .before .before .before .before .before .before .outside-limits) .ensures) ∙ (c .before .before .before .before .before .before .before .before .before .before .before .before .before .before .before .before .before .before .before .before .if3) .left)) (((c .before .before .before .before .before .before .before .before .before .before .before .before .before .before .before .before .before .before .before .before .before .before .before .before .before .before .before .before .before .before .before .before) .pre) .1 .0), (le-trans (names-fit ((c .before .before .before .before .before .before .before .before .before .before .before .before .before .before .before .before .before .before .before .before .before .before .before .before .header-of) .result) (sym ((c .before .before .before .before .before .before .before .before .before .before .before .before .before .before .before .before .before .before .before .before .before .outside-limits) .ensures) ∙ (c .before .before .before .before .before .before .before .before .before .before .before .before .before .before .before .before .before .before .before .before .if3) .left)) (((c .before .before .before .before .before .before .before .before .before .before .before .before .before .before .before .before .before .before .before .before .before .before .before .before .before .before .before .before .before .before .before .before) .pre) .1 .1 .0), (((c .before .before .before .before .before .before .before .before .before .before .before .before .before .before .before .before .before .before .before .before .before .before .before .before .before .before .before .before .before .before .before .before) .pre) .1 .1 .1 .1 .1 .0, ((c .before .before .before .before .before .before .before .before .before .before .before .before .before .before .before .before .before .before .before .before .before .before .before .before .before .before .before .before .before .before .before .before) .pre) .1 .1 .1 .1 .1 .1 .0)))))
+counts-are-bad-requires c κs = ((c .before .before .before .before .before .before .before .before .before .before .before .before .before .before .before .before .before .before .before .before .before .before .before .before .header-of) .ensures, (length-said ((c .before .before .before .before .before .before .before .before .before .before .before .before .before .before .before .before .before .before .before .before .before .before .before .before .before .before .before .before .before .before .before .before) .args .file .now) ((c .before .before .before .before .before .before .before .before .before .before .before .before .before .before .before .before .before .before .before .before .before .before .before .before .header-of) .result) (sym ((c .before .before .before .before .before .before .before .before .before .before .before .before .before .before .before .before .before .before .before .other-length) .ensures) ∙ (c .before .before .before .before .before .before .before .before .before .before .before .before .before .before .before .before .before .before .if4) .left), (le-trans (names-fit ((c .before .before .before .before .before .before .before .before .before .before .before .before .before .before .before .before .before .before .before .before .before .before .before .before .header-of) .result) (sym ((c .before .before .before .before .before .before .before .before .before .before .before .before .before .before .before .before .before .before .before .before .before .before .outside-limits) .ensures) ∙ (c .before .before .before .before .before .before .before .before .before .before .before .before .before .before .before .before .before .before .before .before .if3) .left)) (((c .before .before .before .before .before .before .before .before .before .before .before .before .before .before .before .before .before .before .before .before .before .before .before .before .before .before .before .before .before .before .before .before) .pre) .1 .0), (le-trans (names-fit ((c .before .before .before .before .before .before .before .before .before .before .before .before .before .before .before .before .before .before .before .before .before .before .before .before .header-of) .result) (sym ((c .before .before .before .before .before .before .before .before .before .before .before .before .before .before .before .before .before .before .before .before .before .before .outside-limits) .ensures) ∙ (c .before .before .before .before .before .before .before .before .before .before .before .before .before .before .before .before .before .before .before .before .if3) .left)) (((c .before .before .before .before .before .before .before .before .before .before .before .before .before .before .before .before .before .before .before .before .before .before .before .before .before .before .before .before .before .before .before .before) .pre) .1 .1 .0), (((c .before .before .before .before .before .before .before .before .before .before .before .before .before .before .before .before .before .before .before .before .before .before .before .before .before .before .before .before .before .before .before .before) .pre) .1 .1 .1 .1 .1 .0, ((c .before .before .before .before .before .before .before .before .before .before .before .before .before .before .before .before .before .before .before .before .before .before .before .before .before .before .before .before .before .before .before .before) .pre) .1 .1 .1 .1 .1 .1 .0)))))
 
 same-length-4 : tie.Need-same-length-4
 same-length-4 c = search needs
@@ -101,7 +101,7 @@ same-length-7 c = search needs
 
 returns-10 : tie.Need-returns-10
 unfolding refusal number
-returns-10 c = rw (← (c .before .before .before .before .before .before .before .before .before .before .before .before .before .before .before .before .before .before .before .before .before .before .before .before .before .before .before .before .before .before .before .before .not-a-script) .ensures, (c .before .before .before .before .before .before .before .before .before .before .before .before .before .before .before .before .before .before .before .before .before .before .before .before .before .before .before .before .before .before .before .if1) .left, ← (c .before .before .before .before .before .before .before .before .before .before .before .before .before .before .before .before .before .before .before .before .before .before .before .before .before .before .before .before .before .before .header-of) .ensures, ← (c .before .before .before .before .before .before .before .before .before .before .before .before .before .before .before .before .before .before .before .before .before .before .before .before .before .before .before .before .before .other-version) .ensures, (c .before .before .before .before .before .before .before .before .before .before .before .before .before .before .before .before .before .before .before .before .before .before .before .before .before .before .before .before .if2) .left, ← (c .before .before .before .before .before .before .before .before .before .before .before .before .before .before .before .before .before .before .before .before .before .before .before .before .before .before .before .outside-limits) .ensures, (c .before .before .before .before .before .before .before .before .before .before .before .before .before .before .before .before .before .before .before .before .before .before .before .before .before .before .if3) .left, ← (c .before .before .before .before .before .before .before .before .before .before .before .before .before .before .before .before .before .before .before .before .before .before .before .before .before .other-length) .ensures, (c .before .before .before .before .before .before .before .before .before .before .before .before .before .before .before .before .before .before .before .before .before .before .before .before .if4) .left, ← (c .before .before .before .before .before .before .before .before .before .before .before .before .before .before .before .before .before .before .before .before .before .before .before .facts-are-bad) .ensures, (c .before .before .before .before .before .before .before .before .before .before .before .before .before .before .before .before .before .before .before .before .before .before .if5) .left, ← ((c .before .before .before .before .before .before .before .before .before .before .before .before .before .before .before .before .before .before .before .before .before .script-totals) .ensures) .0, (c .before .before .before .before .before .before .before .before .before .before .before .before .before .before .before .before .before .before .before .before .if6) .left, ← (c .before .before .before .before .before .before .before .before .before .before .before .before .before .before .before .before .before .before .before .nodes-are-bad) .ensures, (c .before .before .before .before .before .before .before .before .before .before .before .before .before .before .before .before .before .before .if7) .left, ← (c .before .before .before .before .before .before .before .before .before .before .before .before .before .before .before .before .trees-are-bad) .ensures, (c .before .before .before .before .before .before .before .before .before .before .before .before .before .if8) .left, ← (c .before .before .before .before .before .before .before .before .before .before .before .names-are-declared-twice) .ensures, (c .before .before .before .before .before .before .before .before .if9) .left, ← (c .before .before .before .before .before .counts-are-bad) .ensures, (c .if10) .taken)
+returns-10 c = rw (← (c .before .before .before .before .before .before .before .before .before .before .before .before .before .before .before .before .before .before .before .before .before .before .before .before .before .before .before .before .before .before .before .before .not-a-script) .ensures, (c .before .before .before .before .before .before .before .before .before .before .before .before .before .before .before .before .before .before .before .before .before .before .before .before .before .before .before .before .before .before .before .if1) .left, ← (c .before .before .before .before .before .before .before .before .before .before .before .before .before .before .before .before .before .before .before .before .before .before .before .before .before .before .before .before .before .before .header-of) .ensures, ← (c .before .before .before .before .before .before .before .before .before .before .before .before .before .before .before .before .before .before .before .before .before .before .before .before .before .before .before .before .before .other-version) .ensures, (c .before .before .before .before .before .before .before .before .before .before .before .before .before .before .before .before .before .before .before .before .before .before .before .before .before .before .before .if2) .left, ← (c .before .before .before .before .before .before .before .before .before .before .before .before .before .before .before .before .before .before .before .before .before .before .before .before .before .before .before .before .outside-limits) .ensures, (c .before .before .before .before .before .before .before .before .before .before .before .before .before .before .before .before .before .before .before .before .before .before .before .before .before .before .if3) .left, ← (c .before .before .before .before .before .before .before .before .before .before .before .before .before .before .before .before .before .before .before .before .before .before .before .before .before .other-length) .ensures, (c .before .before .before .before .before .before .before .before .before .before .before .before .before .before .before .before .before .before .before .before .before .before .before .before .if4) .left, ← (c .before .before .before .before .before .before .before .before .before .before .before .before .before .before .before .before .before .before .before .before .before .before .before .facts-are-bad) .ensures, (c .before .before .before .before .before .before .before .before .before .before .before .before .before .before .before .before .before .before .before .before .before .before .if5) .left, ← ((c .before .before .before .before .before .before .before .before .before .before .before .before .before .before .before .before .before .before .before .before .before .script-totals) .ensures) .0, (c .before .before .before .before .before .before .before .before .before .before .before .before .before .before .before .before .before .before .before .before .if6) .left, ← (c .before .before .before .before .before .before .before .before .before .before .before .before .before .before .before .before .before .before .before .nodes-are-bad) .ensures, (c .before .before .before .before .before .before .before .before .before .before .before .before .before .before .before .before .before .before .if7) .left, ← (c .before .before .before .before .before .before .before .before .before .before .before .before .before .before .before .before .trees-are-bad) .ensures, (c .before .before .before .before .before .before .before .before .before .before .before .before .before .if8) .left, ← (c .before .before .before .before .before .before .before .before .before .before .before .names-are-declared-twice) .ensures, (c .before .before .before .before .before .before .before .before .if9) .left, ← (c .before .before .before .before .before .counts-are-bad) .ensures, (c .if10) .taken)
 
 room-is-short-requires : tie.Need-room-is-short-requires
 room-is-short-requires c κs = ((c .before .before .before .before .before .before .before .before .before .before .before .before .before .before .before .before .before .before .before .before .before .before .before .before .before .before .before .before .before .before .header-of) .ensures, length-said ((c .before .before .before .before .before .before .before .before .before .before .before .before .before .before .before .before .before .before .before .before .before .before .before .before .before .before .before .before .before .before .before .before .before .before .before .before .before .before) .args .file .now) ((c .before .before .before .before .before .before .before .before .before .before .before .before .before .before .before .before .before .before .before .before .before .before .before .before .before .before .before .before .before .before .header-of) .result) (sym ((c .before .before .before .before .before .before .before .before .before .before .before .before .before .before .before .before .before .before .before .before .before .before .before .before .before .other-length) .ensures) ∙ (c .before .before .before .before .before .before .before .before .before .before .before .before .before .before .before .before .before .before .before .before .before .before .before .before .if4) .left))
@@ -120,7 +120,7 @@ same-length-11 c = search needs
 
 returns-11 : tie.Need-returns-11
 unfolding refusal number
-returns-11 c = rw (← (c .before .before .before .before .before .before .before .before .before .before .before .before .before .before .before .before .before .before .before .before .before .before .before .before .before .before .before .before .before .before .before .before .before .before .not-a-script) .ensures, (c .before .before .before .before .before .before .before .before .before .before .before .before .before .before .before .before .before .before .before .before .before .before .before .before .before .before .before .before .before .before .before .before .before .if1) .left, ← (c .before .before .before .before .before .before .before .before .before .before .before .before .before .before .before .before .before .before .before .before .before .before .before .before .before .before .before .before .before .before .before .before .header-of) .ensures, ← (c .before .before .before .before .before .before .before .before .before .before .before .before .before .before .before .before .before .before .before .before .before .before .before .before .before .before .before .before .before .before .before .other-version) .ensures, (c .before .before .before .before .before .before .before .before .before .before .before .before .before .before .before .before .before .before .before .before .before .before .before .before .before .before .before .before .before .before .if2) .left, ← (c .before .before .before .before .before .before .before .before .before .before .before .before .before .before .before .before .before .before .before .before .before .before .before .before .before .before .before .before .before .outside-limits) .ensures, (c .before .before .before .before .before .before .before .before .before .before .before .before .before .before .before .before .before .before .before .before .before .before .before .before .before .before .before .before .if3) .left, ← (c .before .before .before .before .before .before .before .before .before .before .before .before .before .before .before .before .before .before .before .before .before .before .before .before .before .before .before .other-length) .ensures, (c .before .before .before .before .before .before .before .before .before .before .before .before .before .before .before .before .before .before .before .before .before .before .before .before .before .before .if4) .left, ← (c .before .before .before .before .before .before .before .before .before .before .before .before .before .before .before .before .before .before .before .before .before .before .before .before .before .facts-are-bad) .ensures, (c .before .before .before .before .before .before .before .before .before .before .before .before .before .before .before .before .before .before .before .before .before .before .before .before .if5) .left, ← ((c .before .before .before .before .before .before .before .before .before .before .before .before .before .before .before .before .before .before .before .before .before .before .before .script-totals) .ensures) .0, (c .before .before .before .before .before .before .before .before .before .before .before .before .before .before .before .before .before .before .before .before .before .before .if6) .left, ← (c .before .before .before .before .before .before .before .before .before .before .before .before .before .before .before .before .before .before .before .before .before .nodes-are-bad) .ensures, (c .before .before .before .before .before .before .before .before .before .before .before .before .before .before .before .before .before .before .before .before .if7) .left, ← (c .before .before .before .before .before .before .before .before .before .before .before .before .before .before .before .before .before .before .trees-are-bad) .ensures, (c .before .before .before .before .before .before .before .before .before .before .before .before .before .before .before .if8) .left, ← (c .before .before .before .before .before .before .before .before .before .before .before .before .before .names-are-declared-twice) .ensures, (c .before .before .before .before .before .before .before .before .before .before .if9) .left, ← (c .before .before .before .before .before .before .before .counts-are-bad) .ensures, (c .before .before .if10) .left, ← (c .before .room-is-short) .ensures, (c .if11) .taken)
+returns-11 c = rw (← (c .before .before .before .before .before .before .before .before .before .before .before .before .before .before .before .before .before .before .before .before .before .before .before .before .before .before .before .before .before .before .before .before .before .before .not-a-script) .ensures, (c .before .before .before .before .before .before .before .before .before .before .before .before .before .before .before .before .before .before .before .before .before .before .before .before .before .before .before .before .before .before .before .before .before .if1) .left, ← (c .before .before .before .before .before .before .before .before .before .before .before .before .before .before .before .before .before .before .before .before .before .before .before .before .before .before .before .before .before .before .before .before .header-of) .ensures, ← (c .before .before .before .before .before .before .before .before .before .before .before .before .before .before .before .before .before .before .before .before .before .before .before .before .before .before .before .before .before .before .before .other-version) .ensures, (c .before .before .before .before .before .before .before .before .before .before .before .before .before .before .before .before .before .before .before .before .before .before .before .before .before .before .before .before .before .if2) .left, ← (c .before .before .before .before .before .before .before .before .before .before .before .before .before .before .before .before .before .before .before .before .before .before .before .before .before .before .before .before .before .before .outside-limits) .ensures, (c .before .before .before .before .before .before .before .before .before .before .before .before .before .before .before .before .before .before .before .before .before .before .before .before .before .before .before .before .if3) .left, ← (c .before .before .before .before .before .before .before .before .before .before .before .before .before .before .before .before .before .before .before .before .before .before .before .before .before .before .before .other-length) .ensures, (c .before .before .before .before .before .before .before .before .before .before .before .before .before .before .before .before .before .before .before .before .before .before .before .before .before .before .if4) .left, ← (c .before .before .before .before .before .before .before .before .before .before .before .before .before .before .before .before .before .before .before .before .before .before .before .before .before .facts-are-bad) .ensures, (c .before .before .before .before .before .before .before .before .before .before .before .before .before .before .before .before .before .before .before .before .before .before .before .before .if5) .left, ← ((c .before .before .before .before .before .before .before .before .before .before .before .before .before .before .before .before .before .before .before .before .before .before .before .script-totals) .ensures) .0, (c .before .before .before .before .before .before .before .before .before .before .before .before .before .before .before .before .before .before .before .before .before .before .if6) .left, ← (c .before .before .before .before .before .before .before .before .before .before .before .before .before .before .before .before .before .before .before .before .before .nodes-are-bad) .ensures, (c .before .before .before .before .before .before .before .before .before .before .before .before .before .before .before .before .before .before .before .before .if7) .left, ← (c .before .before .before .before .before .before .before .before .before .before .before .before .before .before .before .before .before .before .trees-are-bad) .ensures, (c .before .before .before .before .before .before .before .before .before .before .before .before .before .before .before .if8) .left, ← (c .before .before .before .before .before .before .before .before .before .before .before .before .before .names-are-declared-twice) .ensures, (c .before .before .before .before .before .before .before .before .before .before .if9) .left, ← (c .before .before .before .before .before .before .before .counts-are-bad) .ensures, (c .before .before .if10) .left, ← (c .before .room-is-short) .ensures, (c .if11) .taken)
 
 same-length-12 : tie.Need-same-length-12
 same-length-12 c = search needs
@@ -136,7 +136,7 @@ same-length-15 c = search needs
 
 returns-12 : tie.Need-returns-12
 unfolding refusal number
-returns-12 c = rw (← (c .before .before .before .before .before .before .before .before .before .before .before .before .before .before .before .before .before .before .before .before .before .before .before .before .before .before .before .before .before .before .before .before .before .before .not-a-script) .ensures, (c .before .before .before .before .before .before .before .before .before .before .before .before .before .before .before .before .before .before .before .before .before .before .before .before .before .before .before .before .before .before .before .before .before .if1) .left, ← (c .before .before .before .before .before .before .before .before .before .before .before .before .before .before .before .before .before .before .before .before .before .before .before .before .before .before .before .before .before .before .before .before .header-of) .ensures, ← (c .before .before .before .before .before .before .before .before .before .before .before .before .before .before .before .before .before .before .before .before .before .before .before .before .before .before .before .before .before .before .before .other-version) .ensures, (c .before .before .before .before .before .before .before .before .before .before .before .before .before .before .before .before .before .before .before .before .before .before .before .before .before .before .before .before .before .before .if2) .left, ← (c .before .before .before .before .before .before .before .before .before .before .before .before .before .before .before .before .before .before .before .before .before .before .before .before .before .before .before .before .before .outside-limits) .ensures, (c .before .before .before .before .before .before .before .before .before .before .before .before .before .before .before .before .before .before .before .before .before .before .before .before .before .before .before .before .if3) .left, ← (c .before .before .before .before .before .before .before .before .before .before .before .before .before .before .before .before .before .before .before .before .before .before .before .before .before .before .before .other-length) .ensures, (c .before .before .before .before .before .before .before .before .before .before .before .before .before .before .before .before .before .before .before .before .before .before .before .before .before .before .if4) .left, ← (c .before .before .before .before .before .before .before .before .before .before .before .before .before .before .before .before .before .before .before .before .before .before .before .before .before .facts-are-bad) .ensures, (c .before .before .before .before .before .before .before .before .before .before .before .before .before .before .before .before .before .before .before .before .before .before .before .before .if5) .left, ← ((c .before .before .before .before .before .before .before .before .before .before .before .before .before .before .before .before .before .before .before .before .before .before .before .script-totals) .ensures) .0, (c .before .before .before .before .before .before .before .before .before .before .before .before .before .before .before .before .before .before .before .before .before .before .if6) .left, ← (c .before .before .before .before .before .before .before .before .before .before .before .before .before .before .before .before .before .before .before .before .before .nodes-are-bad) .ensures, (c .before .before .before .before .before .before .before .before .before .before .before .before .before .before .before .before .before .before .before .before .if7) .left, ← (c .before .before .before .before .before .before .before .before .before .before .before .before .before .before .before .before .before .before .trees-are-bad) .ensures, (c .before .before .before .before .before .before .before .before .before .before .before .before .before .before .before .if8) .left, ← (c .before .before .before .before .before .before .before .before .before .before .before .before .before .names-are-declared-twice) .ensures, (c .before .before .before .before .before .before .before .before .before .before .if9) .left, ← (c .before .before .before .before .before .before .before .counts-are-bad) .ensures, (c .before .before .if10) .left, ← (c .before .room-is-short) .ensures, (c .if11) .left)
+returns-12 c = rw (← (c .before .before .before .before .before .before .before .before .before .before .before .before .before .before .before .before .before .before .before .before .before .before .before .before .before .before .before .before .before .before .before .before .before .before .not-a-script) .ensures, (c .before .before .before .before .before .before .before .before .before .before .before .before .before .before .before .before .before .before .before .before .before .before .before .before .before .before .before .before .before .before .before .before .before .if1) .left, ← (c .before .before .before .before .before .before .before .before .before .before .before .before .before .before .before .before .before .before .before .before .before .before .before .before .before .before .before .before .before .before .before .before .header-of) .ensures, ← (c .before .before .before .before .before .before .before .before .before .before .before .before .before .before .before .before .before .before .before .before .before .before .before .before .before .before .before .before .before .before .before .other-version) .ensures, (c .before .before .before .before .before .before .before .before .before .before .before .before .before .before .before .before .before .before .before .before .before .before .before .before .before .before .before .before .before .if2) .left, ← (c .before .before .before .before .before .before .before .before .before .before .before .before .before .before .before .before .before .before .before .before .before .before .before .before .before .before .before .before .before .before .outside-limits) .ensures, (c .before .before .before .before .before .before .before .before .before .before .before .before .before .before .before .before .before .before .before .before .before .before .before .before .before .before .before .before .if3) .left, ← (c .before .before .before .before .before .before .before .before .before .before .before .before .before .before .before .before .before .before .before .before .before .before .before .before .before .before .before .other-length) .ensures, (c .before .before .before .before .before .before .before .before .before .before .before .before .before .before .before .before .before .before .before .before .before .before .before .before .before .before .if4) .left, ← (c .before .before .before .before .before .before .before .before .before .before .before .before .before .before .before .before .before .before .before .before .before .before .before .before .before .facts-are-bad) .ensures, (c .before .before .before .before .before .before .before .before .before .before .before .before .before .before .before .before .before .before .before .before .before .before .before .before .if5) .left, ← ((c .before .before .before .before .before .before .before .before .before .before .before .before .before .before .before .before .before .before .before .before .before .before .before .script-totals) .ensures) .0, (c .before .before .before .before .before .before .before .before .before .before .before .before .before .before .before .before .before .before .before .before .before .before .if6) .left, ← (c .before .before .before .before .before .before .before .before .before .before .before .before .before .before .before .before .before .before .before .before .before .nodes-are-bad) .ensures, (c .before .before .before .before .before .before .before .before .before .before .before .before .before .before .before .before .before .before .before .before .if7) .left, ← (c .before .before .before .before .before .before .before .before .before .before .before .before .before .before .before .before .before .before .trees-are-bad) .ensures, (c .before .before .before .before .before .before .before .before .before .before .before .before .before .before .before .if8) .left, ← (c .before .before .before .before .before .before .before .before .before .before .before .before .before .names-are-declared-twice) .ensures, (c .before .before .before .before .before .before .before .before .before .before .if9) .left, ← (c .before .before .before .before .before .before .before .counts-are-bad) .ensures, (c .before .before .if10) .left, ← (c .before .room-is-short) .ensures, (c .if11) .left)
 
 pub check-spec : {M : Type 1} → statement M
 check-spec =
@@ -146,8 +146,8 @@ check-spec =
     returns
     header-of-requires
     other-version-requires
-    returns-2
     outside-limits-requires
+    returns-2
     returns-3
     other-length-requires
     returns-4
