@@ -12,14 +12,14 @@ use crate::generate::limits::limits;
 use crate::generate::nests::nests;
 use crate::generate::random_file::random_file;
 use crate::generate::refusals::refusals;
-use crate::generate::rules::rules;
-use crate::generate::shapes::shapes;
+use crate::generate::rules::{Rule, rules};
+use crate::generate::shapes::{Shape, shapes};
 use crate::record::{Node, RecordFile, kind};
 use crate::scripts::scripts;
 
 /// The seed of the random part.
 const SEED: u64 = 157;
-const RANDOM_FILES: usize = 80;
+const RANDOM_FILES: usize = 76;
 const DAMAGED_FILES: usize = 60;
 /// Random files longer than this are left out.
 const MOST_BYTES: usize = 400;
@@ -27,7 +27,6 @@ const MOST_BYTES: usize = 400;
 const REFUSED_KEPT: usize = 7;
 /// Of a long table's accepted files one in so many is kept.
 const ACCEPTED_KEPT: usize = 13;
-
 /// Of the files with several facts changed one in so many is kept.
 const FACTS_KEPT: usize = 2503;
 
@@ -35,8 +34,8 @@ const FACTS_KEPT: usize = 2503;
 pub fn answer_cases() -> Vec<Case> {
     let mut cases = Vec::new();
     cases.extend(scripts().iter().map(|it| Case::of_records(it.text, &it.file)));
-    cases.extend(rules().iter().map(|it| Case::of_records(it.text, &it.file)));
-    cases.extend(shapes().iter().map(|it| Case::of_records(it.text, &it.file)));
+    cases.extend(rules().iter().map(Rule::case));
+    cases.extend(shapes().iter().map(Shape::case));
     cases.extend(refusal_cases());
     cases.extend(limits().into_iter().filter(|case| !case.bulk));
     cases.extend(nests().iter().map(|(what, file)| Case::of_records(what, file)));

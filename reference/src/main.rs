@@ -63,11 +63,22 @@ fn run() -> Result<(), String> {
     }
 }
 
-const USAGE: &str = "reference check [--short] DIRECTORY | write DIRECTORY | origin CRATE | \
-                     foldlist | fold ROOM | replay | batch FAMILY, a family being one of ";
+const USAGE: &str = "\
+reference check [--short] DIRECTORY   check everything; the directory is that of the reference
+reference write DIRECTORY             write the scripts and the kept answers anew
+reference origin CRATE                compare the carried functions with the unpacked crate
+reference foldlist < FILE             print the lines of foldlist
+reference fold ROOM < FILE > RESULT   fold one file
+reference replay < ANSWERS            compare answers with the fold's
+reference batch FAMILY > ANSWERS      write the answers of a family of files, which is one of
+";
 
 fn no_difference(differences: usize) -> Result<(), String> {
-    if differences == 0 { Ok(()) } else { Err(format!("{differences} parts differ")) }
+    if differences > 0 {
+        return Err(format!("{differences} parts differ"));
+    }
+    println!("nothing differs");
+    Ok(())
 }
 
 fn standard_input() -> Result<Vec<u8>, String> {

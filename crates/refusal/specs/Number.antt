@@ -4,7 +4,7 @@ use Rattle.refusal.specs.declared.answer.Refusal.{Refusal}
 use Rattle.refusal.specs.declared.answer.Refusal.the-variants.{Accepted, NotAScript, OtherVersion, OutsideLimits, OtherLength, BadFacts, BadScript, BadNodes, BadTrees, DeclaredTwice, BadCounts, NoRoom}
 
 -- 0: accepted; else the row of document 01's table
-unfoldable pub number : Refusal → ℕ
+abbrev pub number : Refusal → ℕ
 number Accepted = 0
 number NotAScript = 1
 number OtherVersion = 2

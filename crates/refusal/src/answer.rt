@@ -1,4 +1,7 @@
 // What the refusal table says of a file: accepted, or the row that refuses it.
+ghost use mathlib.Core.Path.{_≡_};
+ghost use Rattle.refusal.specs.Number.{number};
+
 pub enum Refusal {
     Accepted,
     NotAScript,
@@ -12,4 +15,24 @@ pub enum Refusal {
     DeclaredTwice,
     BadCounts,
     NoRoom,
+}
+
+// The number that document 01's table gives an answer; 0 if the file is accepted.
+pub fn number_of(r: Refusal) -> u8
+    ensures { λ n. ⌜ n ≡ number r ⌝ }
+{
+    match r {
+        Refusal::Accepted => 0,
+        Refusal::NotAScript => 1,
+        Refusal::OtherVersion => 2,
+        Refusal::OutsideLimits => 3,
+        Refusal::OtherLength => 4,
+        Refusal::BadFacts => 5,
+        Refusal::BadScript => 6,
+        Refusal::BadNodes => 7,
+        Refusal::BadTrees => 8,
+        Refusal::DeclaredTwice => 9,
+        Refusal::BadCounts => 10,
+        Refusal::NoRoom => 11,
+    }
 }

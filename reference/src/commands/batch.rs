@@ -12,10 +12,13 @@ use crate::generate::limits::limits;
 use crate::generate::nests::nests;
 use crate::generate::random_file::random_file;
 use crate::generate::refusals::refusals;
+use crate::generate::rules::rules;
+use crate::generate::shapes::shapes;
 
 /// The names of the families, with their numbers.
 pub const FAMILIES: &str = "random SEED FIRST COUNT SIZE | damaged SEED FIRST COUNT SIZE | \
-                            small NODES | passed NODES | facts | nests | limits | refusals";
+                            small NODES | passed NODES | facts | rules | shapes | nests | \
+                            limits | refusals";
 
 /// Writes the entries of a family to the output.
 pub fn batch(family: &str, numbers: &[u64], out: &mut dyn Write) -> Result<(), String> {
@@ -46,6 +49,8 @@ fn each_case(family: &str, numbers: &[u64], put: &mut dyn FnMut(Case)) -> Result
             nests().iter().for_each(|(what, file)| put(Case::of_records(what, file)));
         }
         ("facts", []) => facts(put),
+        ("rules", []) => rules().iter().for_each(|rule| put(rule.case())),
+        ("shapes", []) => shapes().iter().for_each(|shape| put(shape.case())),
         ("limits", []) => limits().into_iter().for_each(put),
         ("refusals", []) => refusals().into_iter().for_each(put),
         _ => return Err(format!("a family is one of {FAMILIES}")),

@@ -19,7 +19,7 @@ use crate::generate::limits::limits;
 use crate::generate::nests::nests;
 use crate::generate::random_file::random_file;
 use crate::generate::refusals::refusals;
-use crate::generate::rules::{Rule, rules};
+use crate::generate::rules::rules;
 use crate::generate::shapes::{Shape, shapes};
 use crate::origin::as_compared;
 use crate::scripts::{Script, scripts};
@@ -130,11 +130,11 @@ fn check_expected() -> Result<String, String> {
 /// The files of single rules, whose folds were worked out by hand.
 fn check_rules() -> Result<String, String> {
     let rules = rules();
-    for Rule { text, folds, file } in &rules {
-        let case = Case::of_records(*text, file);
+    for rule in &rules {
+        let case = rule.case();
         let answer = fold(&case.file, case.room);
-        let holds = answer.number == 0 && answer.folds == *folds;
-        demand(holds, || format!("`{text}`: {} folds, not {folds}", answer.folds))?;
+        let holds = answer.number == 0 && answer.folds == rule.folds;
+        demand(holds, || format!("`{}`: {} folds, not {}", rule.text, answer.folds, rule.folds))?;
     }
     Ok(format!("{} files had the folds worked out by hand", rules.len()))
 }
@@ -142,9 +142,10 @@ fn check_rules() -> Result<String, String> {
 /// The Rust folds the four shapes.
 fn check_shapes() -> Result<String, String> {
     let shapes = shapes();
-    for Shape { letter, text, result_text, file } in &shapes {
-        let case = Case::of_records(*text, file);
+    for shape in &shapes {
+        let case = shape.case();
         let folds = fold(&case.file, case.room).folds;
+        let Shape { letter, text, result_text, .. } = shape;
         demand(folds == 1, || format!("({letter}) `{text}` doesn't fold to `{result_text}`"))?;
     }
     let letters: Vec<String> = shapes.iter().map(|shape| shape.letter.to_string()).collect();
@@ -182,6 +183,8 @@ fn check_generated(report: &mut Report, amount: Amount) {
     };
     family("hand-made files", &|family| {
         hand_made().for_each(|case| family.check(&case));
+        rules().iter().for_each(|rule| family.check(&rule.case()));
+        shapes().iter().for_each(|shape| family.check(&shape.case()));
     });
     family("deep nests", &|family| {
         nests().iter().for_each(|(what, file)| family.check(&Case::of_records(what, file)));

@@ -72,8 +72,17 @@ fn other_counts() -> Vec<Case> {
         case(0, "500 statements", &counted_file(0, 1, 0, 500)),
         case(3, "501 statements", &counted_file(0, 1, 0, 501)),
         case(3, "no statement", &counted_file(0, 1, 0, 0)),
-        case(0, "every count at its limit", &counted_file(256, 256, 16, 500)),
+        case(0, "the longest file", &longest_file(3000, 0)),
+        case(0, "every count at its limit", &longest_file(2000, 500)),
     ]
+}
+
+/// As many names, scopes, frames and statements as a file may have.
+fn longest_file(nodes: usize, declarators: usize) -> RecordFile {
+    let mut file = counted_file(256, 256, 16, 498);
+    push_line(&mut file, &wide_line(nodes));
+    push_line(&mut file, &patterns(declarators));
+    file
 }
 
 /// Names to declare, each read once.
@@ -139,9 +148,9 @@ fn most_folds() -> Vec<Case> {
     ]
 }
 
-/// Literals, all searched for in one array with these items.
-fn literals_sought_in(items: Vec<Tree>) -> RecordFile {
-    let declarators = (0..DECLARED).map(|name| (name, Some(Tree::literal()))).collect();
+/// So many literals, all searched for in one array with these items.
+fn literals_sought_in(count: u16, items: Vec<Tree>) -> RecordFile {
+    let declarators = (0..count).map(|name| (name, Some(Tree::literal()))).collect();
     let lines = [
         Line::Declaration { kind: statement::CONST, declarators },
         Line::Expression(Tree::new(kind::ARRAY, items)),
@@ -149,22 +158,25 @@ fn literals_sought_in(items: Vec<Tree>) -> RecordFile {
     file_of(names(), &lines)
 }
 
-/// So many other names stand before the sought ones that the file has 3000 nodes.
+/// So many other names stand before the sought ones that the file has all the nodes it may have.
 fn many_looks(folded: bool) -> RecordFile {
     let mut items = vec![Tree::name(DECLARED); 1979];
     if folded {
         items.extend((0..DECLARED).map(Tree::name));
     }
-    literals_sought_in(items)
+    literals_sought_in(DECLARED, items)
 }
 
-/// As many nodes stand before the sought names, each below the other.
+/// The nodes before the sought names stand each below the other. The Rust asks for the effect at
+/// each of them again.
 fn deep_looks() -> RecordFile {
+    const SOUGHT: u16 = 30;
     let mut deep = Tree::name(DECLARED);
-    for _ in 0..1978 {
+    for _ in 0..2878 {
         deep = Tree::new(kind::UNARY, vec![deep]);
     }
-    literals_sought_in(std::iter::once(deep).chain((0..DECLARED).map(Tree::name)).collect())
+    let items = std::iter::once(deep).chain((0..SOUGHT).map(Tree::name));
+    literals_sought_in(SOUGHT, items.collect())
 }
 
 /// The file with one more statement, and then as many nodes as a file may have.

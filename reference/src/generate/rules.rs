@@ -9,6 +9,7 @@ mod passed;
 mod places;
 mod targets;
 
+use super::case::Case;
 use crate::build::{Line, PLAIN_NAME, Tree, UNRESOLVED_NAME, declared_name, empty_file, push_line};
 use crate::record::*;
 
@@ -16,6 +17,12 @@ pub struct Rule {
     pub text: &'static str,
     pub folds: u32,
     pub file: RecordFile,
+}
+
+impl Rule {
+    pub fn case(&self) -> Case {
+        Case::of_records(self.text, &self.file)
+    }
 }
 
 pub fn rules() -> Vec<Rule> {

@@ -1,6 +1,7 @@
 //! The four shapes at which the Rust and ECMA-262 part, each as small as it can be. The Rust folds
 //! them all.
 
+use super::case::Case;
 use crate::build::{Line, PLAIN_NAME, Tree, UNRESOLVED_NAME, declared_name, empty_file, push_line};
 use crate::record::*;
 
@@ -9,6 +10,12 @@ pub struct Shape {
     pub text: &'static str,
     pub result_text: &'static str,
     pub file: RecordFile,
+}
+
+impl Shape {
+    pub fn case(&self) -> Case {
+        Case::of_records(self.text, &self.file)
+    }
 }
 
 const SEARCHED: u16 = 0;

@@ -20,6 +20,8 @@ pub const TABLE: Table<7> = Table {
         [0, 4, 2, 0, 0, 0, 0],
         [0, 4, 3, 0, 0, 0, 0],
         [0, 2, 1, 0, 0, 0, 3],
+        [0, 2, 0, 0, 4, 0, 0],
+        [0, 4, 0, 0, 4, 0, 0],
         // Literals only, which speaks of statements alone.
         [0, 1, 0, 1, 0, 0, 0],
         [0, 5, 0, 1, 0, 0, 0],

@@ -1,8 +1,8 @@
 //! Row 8: trees that don't close, and children where their kind can't stand.
 
 use super::nodes::{as_expression, tree_of_kind};
-use super::{Cases, PLAIN, assign, call};
-use crate::build::Tree;
+use super::{Cases, MUTATED, PLAIN, assign, call};
+use crate::build::{Line, Tree, push_line};
 use crate::record::*;
 
 /// Row 8: too few or too many nodes.
@@ -16,6 +16,11 @@ pub fn unclosed_trees(cases: &mut Cases) {
     cases.change(8, "no node", |file| file.nodes.clear());
     cases.change(8, "an initializer too many", |file| file.declarators[2].initializer = 1);
     cases.change(8, "an initializer too few", |file| file.declarators[0].initializer = 0);
+    cases.change(8, "a last initializer without nodes", |file| {
+        let line = Line::Declaration { kind: statement::VAR, declarators: vec![(MUTATED, None)] };
+        push_line(file, &line);
+        file.declarators[3].initializer = 1;
+    });
     cases.change(8, "an expression for another statement", |file| file.statements[2].kind = 6);
     for children in [0, 2, 65535] {
         let array = Tree::new(kind::ARRAY, vec![Tree::literal()]);

@@ -95,6 +95,8 @@ pub fn objects() -> Vec<Rule> {
         rule(0, "let v=1; ({...a,k:v})", one(), behind(spread(a()))),
         rule(1, "let v=b; [{k:a},v]", b(), array([over(0, a()), v()])),
         rule(0, "let v=1; [{[a]:1},v]", one(), array([object([property(32, [a(), one()])]), v()])),
+        rule(0, "let v=1; [{['__proto__']:1},v]", one(), array([over(96, one()), v()])),
+        rule(0, "let v=1; [{...a},v]", one(), array([object([spread(a())]), v()])),
     ]
 }
 

@@ -3,7 +3,6 @@ use mathlib.Core.Path.{_≡_, refl, sym, ap, _∙_}
 use native.Mathlib.Omega.{arith}
 use native.Mathlib.Nat.{le-trans}
 use Rattle.records.specs.Refusal.{refusal}
-use Rattle.refusal.specs.Number.{number}
 use Rattle.refusal.proofs.Limits.{long-enough, names-fit, nodes-fit, length-said, file-declarators-fit}
 use borrow.Author.Needs.{needs}
 use Rattle.refusal.proofs.check.check.Statement.{statement}
@@ -13,7 +12,7 @@ not-a-script-requires : tie.Need-not-a-script-requires
 not-a-script-requires c κs = search needs
 
 returns : tie.Need-returns
-unfolding refusal number
+unfolding refusal
 returns c = rw (← (c .before .not-a-script) .ensures, (c .if1) .taken)
 
 header-of-requires : tie.Need-header-of-requires
@@ -26,39 +25,39 @@ outside-limits-requires : tie.Need-outside-limits-requires
 outside-limits-requires c κs = search needs
 
 returns-2 : tie.Need-returns-2
-unfolding refusal number
+unfolding refusal
 returns-2 c = rw (← (c .before .before .before .before .before .not-a-script) .ensures, (c .before .before .before .before .if1) .left, ← (c .before .before .before .header-of) .ensures, ← (c .before .before .other-version) .ensures, (c .if2) .taken)
 
 returns-3 : tie.Need-returns-3
-unfolding refusal number
+unfolding refusal
 returns-3 c = rw (← (c .before .before .before .before .before .before .not-a-script) .ensures, (c .before .before .before .before .before .if1) .left, ← (c .before .before .before .before .header-of) .ensures, ← (c .before .before .before .other-version) .ensures, (c .before .if2) .left, ← (c .before .before .outside-limits) .ensures, (c .if3) .taken)
 
 other-length-requires : tie.Need-other-length-requires
 other-length-requires c κs = search needs
 
 returns-4 : tie.Need-returns-4
-unfolding refusal number
+unfolding refusal
 returns-4 c = rw (← (c .before .before .before .before .before .before .before .before .not-a-script) .ensures, (c .before .before .before .before .before .before .before .if1) .left, ← (c .before .before .before .before .before .before .header-of) .ensures, ← (c .before .before .before .before .before .other-version) .ensures, (c .before .before .before .if2) .left, ← (c .before .before .before .before .outside-limits) .ensures, (c .before .before .if3) .left, ← (c .before .other-length) .ensures, (c .if4) .taken)
 
 facts-are-bad-requires : tie.Need-facts-are-bad-requires
 facts-are-bad-requires c κs = ((c .before .before .before .before .before .before .header-of) .ensures, length-said ((c .before .before .before .before .before .before .before .before .before .before .before .before .before .before) .args .file .now) ((c .before .before .before .before .before .before .header-of) .result) (sym ((c .before .other-length) .ensures) ∙ (c .if4) .left))
 
 returns-5 : tie.Need-returns-5
-unfolding refusal number
+unfolding refusal
 returns-5 c = rw (← (c .before .before .before .before .before .before .before .before .before .before .not-a-script) .ensures, (c .before .before .before .before .before .before .before .before .before .if1) .left, ← (c .before .before .before .before .before .before .before .before .header-of) .ensures, ← (c .before .before .before .before .before .before .before .other-version) .ensures, (c .before .before .before .before .before .if2) .left, ← (c .before .before .before .before .before .before .outside-limits) .ensures, (c .before .before .before .before .if3) .left, ← (c .before .before .before .other-length) .ensures, (c .before .before .if4) .left, ← (c .before .facts-are-bad) .ensures, (c .if5) .taken)
 
 script-totals-requires : tie.Need-script-totals-requires
 script-totals-requires c κs = ((c .before .before .before .before .before .before .before .before .header-of) .ensures, length-said ((c .before .before .before .before .before .before .before .before .before .before .before .before .before .before .before .before) .args .file .now) ((c .before .before .before .before .before .before .before .before .header-of) .result) (sym ((c .before .before .before .other-length) .ensures) ∙ (c .before .before .if4) .left))
 
 returns-6 : tie.Need-returns-6
-unfolding refusal number
+unfolding refusal
 returns-6 c = rw (← (c .before .before .before .before .before .before .before .before .before .before .before .before .not-a-script) .ensures, (c .before .before .before .before .before .before .before .before .before .before .before .if1) .left, ← (c .before .before .before .before .before .before .before .before .before .before .header-of) .ensures, ← (c .before .before .before .before .before .before .before .before .before .other-version) .ensures, (c .before .before .before .before .before .before .before .if2) .left, ← (c .before .before .before .before .before .before .before .before .outside-limits) .ensures, (c .before .before .before .before .before .before .if3) .left, ← (c .before .before .before .before .before .other-length) .ensures, (c .before .before .before .before .if4) .left, ← (c .before .before .before .facts-are-bad) .ensures, (c .before .before .if5) .left, ← ((c .before .script-totals) .ensures) .0, (c .if6) .taken)
 
 nodes-are-bad-requires : tie.Need-nodes-are-bad-requires
 nodes-are-bad-requires c κs = ((c .before .before .before .before .before .before .before .before .before .before .header-of) .ensures, length-said ((c .before .before .before .before .before .before .before .before .before .before .before .before .before .before .before .before .before .before) .args .file .now) ((c .before .before .before .before .before .before .before .before .before .before .header-of) .result) (sym ((c .before .before .before .before .before .other-length) .ensures) ∙ (c .before .before .before .before .if4) .left))
 
 returns-7 : tie.Need-returns-7
-unfolding refusal number
+unfolding refusal
 returns-7 c = rw (← (c .before .before .before .before .before .before .before .before .before .before .before .before .before .before .not-a-script) .ensures, (c .before .before .before .before .before .before .before .before .before .before .before .before .before .if1) .left, ← (c .before .before .before .before .before .before .before .before .before .before .before .before .header-of) .ensures, ← (c .before .before .before .before .before .before .before .before .before .before .before .other-version) .ensures, (c .before .before .before .before .before .before .before .before .before .if2) .left, ← (c .before .before .before .before .before .before .before .before .before .before .outside-limits) .ensures, (c .before .before .before .before .before .before .before .before .if3) .left, ← (c .before .before .before .before .before .before .before .other-length) .ensures, (c .before .before .before .before .before .before .if4) .left, ← (c .before .before .before .before .before .facts-are-bad) .ensures, (c .before .before .before .before .if5) .left, ← ((c .before .before .before .script-totals) .ensures) .0, (c .before .before .if6) .left, ← (c .before .nodes-are-bad) .ensures, (c .if7) .taken)
 
 trees-are-bad-requires : tie.Need-trees-are-bad-requires
@@ -68,7 +67,7 @@ same-length : tie.Need-same-length
 same-length c = search needs
 
 returns-8 : tie.Need-returns-8
-unfolding refusal number
+unfolding refusal
 returns-8 c = rw (← (c .before .before .before .before .before .before .before .before .before .before .before .before .before .before .before .before .before .before .before .not-a-script) .ensures, (c .before .before .before .before .before .before .before .before .before .before .before .before .before .before .before .before .before .before .if1) .left, ← (c .before .before .before .before .before .before .before .before .before .before .before .before .before .before .before .before .before .header-of) .ensures, ← (c .before .before .before .before .before .before .before .before .before .before .before .before .before .before .before .before .other-version) .ensures, (c .before .before .before .before .before .before .before .before .before .before .before .before .before .before .if2) .left, ← (c .before .before .before .before .before .before .before .before .before .before .before .before .before .before .before .outside-limits) .ensures, (c .before .before .before .before .before .before .before .before .before .before .before .before .before .if3) .left, ← (c .before .before .before .before .before .before .before .before .before .before .before .before .other-length) .ensures, (c .before .before .before .before .before .before .before .before .before .before .before .if4) .left, ← (c .before .before .before .before .before .before .before .before .before .before .facts-are-bad) .ensures, (c .before .before .before .before .before .before .before .before .before .if5) .left, ← ((c .before .before .before .before .before .before .before .before .script-totals) .ensures) .0, (c .before .before .before .before .before .before .before .if6) .left, ← (c .before .before .before .before .before .before .nodes-are-bad) .ensures, (c .before .before .before .before .before .if7) .left, ← (c .before .before .before .trees-are-bad) .ensures, (c .if8) .taken)
 
 names-are-declared-twice-requires : tie.Need-names-are-declared-twice-requires
@@ -81,7 +80,7 @@ same-length-3 : tie.Need-same-length-3
 same-length-3 c = search needs
 
 returns-9 : tie.Need-returns-9
-unfolding refusal number
+unfolding refusal
 returns-9 c = rw (← (c .before .before .before .before .before .before .before .before .before .before .before .before .before .before .before .before .before .before .before .before .before .before .before .before .not-a-script) .ensures, (c .before .before .before .before .before .before .before .before .before .before .before .before .before .before .before .before .before .before .before .before .before .before .before .if1) .left, ← (c .before .before .before .before .before .before .before .before .before .before .before .before .before .before .before .before .before .before .before .before .before .before .header-of) .ensures, ← (c .before .before .before .before .before .before .before .before .before .before .before .before .before .before .before .before .before .before .before .before .before .other-version) .ensures, (c .before .before .before .before .before .before .before .before .before .before .before .before .before .before .before .before .before .before .before .if2) .left, ← (c .before .before .before .before .before .before .before .before .before .before .before .before .before .before .before .before .before .before .before .before .outside-limits) .ensures, (c .before .before .before .before .before .before .before .before .before .before .before .before .before .before .before .before .before .before .if3) .left, ← (c .before .before .before .before .before .before .before .before .before .before .before .before .before .before .before .before .before .other-length) .ensures, (c .before .before .before .before .before .before .before .before .before .before .before .before .before .before .before .before .if4) .left, ← (c .before .before .before .before .before .before .before .before .before .before .before .before .before .before .before .facts-are-bad) .ensures, (c .before .before .before .before .before .before .before .before .before .before .before .before .before .before .if5) .left, ← ((c .before .before .before .before .before .before .before .before .before .before .before .before .before .script-totals) .ensures) .0, (c .before .before .before .before .before .before .before .before .before .before .before .before .if6) .left, ← (c .before .before .before .before .before .before .before .before .before .before .before .nodes-are-bad) .ensures, (c .before .before .before .before .before .before .before .before .before .before .if7) .left, ← (c .before .before .before .before .before .before .before .before .trees-are-bad) .ensures, (c .before .before .before .before .before .if8) .left, ← (c .before .before .before .names-are-declared-twice) .ensures, (c .if9) .taken)
 
 counts-are-bad-requires : tie.Need-counts-are-bad-requires
@@ -100,7 +99,7 @@ same-length-7 : tie.Need-same-length-7
 same-length-7 c = search needs
 
 returns-10 : tie.Need-returns-10
-unfolding refusal number
+unfolding refusal
 returns-10 c = rw (← (c .before .before .before .before .before .before .before .before .before .before .before .before .before .before .before .before .before .before .before .before .before .before .before .before .before .before .before .before .before .before .before .before .not-a-script) .ensures, (c .before .before .before .before .before .before .before .before .before .before .before .before .before .before .before .before .before .before .before .before .before .before .before .before .before .before .before .before .before .before .before .if1) .left, ← (c .before .before .before .before .before .before .before .before .before .before .before .before .before .before .before .before .before .before .before .before .before .before .before .before .before .before .before .before .before .before .header-of) .ensures, ← (c .before .before .before .before .before .before .before .before .before .before .before .before .before .before .before .before .before .before .before .before .before .before .before .before .before .before .before .before .before .other-version) .ensures, (c .before .before .before .before .before .before .before .before .before .before .before .before .before .before .before .before .before .before .before .before .before .before .before .before .before .before .before .if2) .left, ← (c .before .before .before .before .before .before .before .before .before .before .before .before .before .before .before .before .before .before .before .before .before .before .before .before .before .before .before .before .outside-limits) .ensures, (c .before .before .before .before .before .before .before .before .before .before .before .before .before .before .before .before .before .before .before .before .before .before .before .before .before .before .if3) .left, ← (c .before .before .before .before .before .before .before .before .before .before .before .before .before .before .before .before .before .before .before .before .before .before .before .before .before .other-length) .ensures, (c .before .before .before .before .before .before .before .before .before .before .before .before .before .before .before .before .before .before .before .before .before .before .before .before .if4) .left, ← (c .before .before .before .before .before .before .before .before .before .before .before .before .before .before .before .before .before .before .before .before .before .before .before .facts-are-bad) .ensures, (c .before .before .before .before .before .before .before .before .before .before .before .before .before .before .before .before .before .before .before .before .before .before .if5) .left, ← ((c .before .before .before .before .before .before .before .before .before .before .before .before .before .before .before .before .before .before .before .before .before .script-totals) .ensures) .0, (c .before .before .before .before .before .before .before .before .before .before .before .before .before .before .before .before .before .before .before .before .if6) .left, ← (c .before .before .before .before .before .before .before .before .before .before .before .before .before .before .before .before .before .before .before .nodes-are-bad) .ensures, (c .before .before .before .before .before .before .before .before .before .before .before .before .before .before .before .before .before .before .if7) .left, ← (c .before .before .before .before .before .before .before .before .before .before .before .before .before .before .before .before .trees-are-bad) .ensures, (c .before .before .before .before .before .before .before .before .before .before .before .before .before .if8) .left, ← (c .before .before .before .before .before .before .before .before .before .before .before .names-are-declared-twice) .ensures, (c .before .before .before .before .before .before .before .before .if9) .left, ← (c .before .before .before .before .before .counts-are-bad) .ensures, (c .if10) .taken)
 
 room-is-short-requires : tie.Need-room-is-short-requires
@@ -119,7 +118,7 @@ same-length-11 : tie.Need-same-length-11
 same-length-11 c = search needs
 
 returns-11 : tie.Need-returns-11
-unfolding refusal number
+unfolding refusal
 returns-11 c = rw (← (c .before .before .before .before .before .before .before .before .before .before .before .before .before .before .before .before .before .before .before .before .before .before .before .before .before .before .before .before .before .before .before .before .before .before .not-a-script) .ensures, (c .before .before .before .before .before .before .before .before .before .before .before .before .before .before .before .before .before .before .before .before .before .before .before .before .before .before .before .before .before .before .before .before .before .if1) .left, ← (c .before .before .before .before .before .before .before .before .before .before .before .before .before .before .before .before .before .before .before .before .before .before .before .before .before .before .before .before .before .before .before .before .header-of) .ensures, ← (c .before .before .before .before .before .before .before .before .before .before .before .before .before .before .before .before .before .before .before .before .before .before .before .before .before .before .before .before .before .before .before .other-version) .ensures, (c .before .before .before .before .before .before .before .before .before .before .before .before .before .before .before .before .before .before .before .before .before .before .before .before .before .before .before .before .before .if2) .left, ← (c .before .before .before .before .before .before .before .before .before .before .before .before .before .before .before .before .before .before .before .before .before .before .before .before .before .before .before .before .before .before .outside-limits) .ensures, (c .before .before .before .before .before .before .before .before .before .before .before .before .before .before .before .before .before .before .before .before .before .before .before .before .before .before .before .before .if3) .left, ← (c .before .before .before .before .before .before .before .before .before .before .before .before .before .before .before .before .before .before .before .before .before .before .before .before .before .before .before .other-length) .ensures, (c .before .before .before .before .before .before .before .before .before .before .before .before .before .before .before .before .before .before .before .before .before .before .before .before .before .before .if4) .left, ← (c .before .before .before .before .before .before .before .before .before .before .before .before .before .before .before .before .before .before .before .before .before .before .before .before .before .facts-are-bad) .ensures, (c .before .before .before .before .before .before .before .before .before .before .before .before .before .before .before .before .before .before .before .before .before .before .before .before .if5) .left, ← ((c .before .before .before .before .before .before .before .before .before .before .before .before .before .before .before .before .before .before .before .before .before .before .before .script-totals) .ensures) .0, (c .before .before .before .before .before .before .before .before .before .before .before .before .before .before .before .before .before .before .before .before .before .before .if6) .left, ← (c .before .before .before .before .before .before .before .before .before .before .before .before .before .before .before .before .before .before .before .before .before .nodes-are-bad) .ensures, (c .before .before .before .before .before .before .before .before .before .before .before .before .before .before .before .before .before .before .before .before .if7) .left, ← (c .before .before .before .before .before .before .before .before .before .before .before .before .before .before .before .before .before .before .trees-are-bad) .ensures, (c .before .before .before .before .before .before .before .before .before .before .before .before .before .before .before .if8) .left, ← (c .before .before .before .before .before .before .before .before .before .before .before .before .before .names-are-declared-twice) .ensures, (c .before .before .before .before .before .before .before .before .before .before .if9) .left, ← (c .before .before .before .before .before .before .before .counts-are-bad) .ensures, (c .before .before .if10) .left, ← (c .before .room-is-short) .ensures, (c .if11) .taken)
 
 same-length-12 : tie.Need-same-length-12
@@ -135,7 +134,7 @@ same-length-15 : tie.Need-same-length-15
 same-length-15 c = search needs
 
 returns-12 : tie.Need-returns-12
-unfolding refusal number
+unfolding refusal
 returns-12 c = rw (← (c .before .before .before .before .before .before .before .before .before .before .before .before .before .before .before .before .before .before .before .before .before .before .before .before .before .before .before .before .before .before .before .before .before .before .not-a-script) .ensures, (c .before .before .before .before .before .before .before .before .before .before .before .before .before .before .before .before .before .before .before .before .before .before .before .before .before .before .before .before .before .before .before .before .before .if1) .left, ← (c .before .before .before .before .before .before .before .before .before .before .before .before .before .before .before .before .before .before .before .before .before .before .before .before .before .before .before .before .before .before .before .before .header-of) .ensures, ← (c .before .before .before .before .before .before .before .before .before .before .before .before .before .before .before .before .before .before .before .before .before .before .before .before .before .before .before .before .before .before .before .other-version) .ensures, (c .before .before .before .before .before .before .before .before .before .before .before .before .before .before .before .before .before .before .before .before .before .before .before .before .before .before .before .before .before .if2) .left, ← (c .before .before .before .before .before .before .before .before .before .before .before .before .before .before .before .before .before .before .before .before .before .before .before .before .before .before .before .before .before .before .outside-limits) .ensures, (c .before .before .before .before .before .before .before .before .before .before .before .before .before .before .before .before .before .before .before .before .before .before .before .before .before .before .before .before .if3) .left, ← (c .before .before .before .before .before .before .before .before .before .before .before .before .before .before .before .before .before .before .before .before .before .before .before .before .before .before .before .other-length) .ensures, (c .before .before .before .before .before .before .before .before .before .before .before .before .before .before .before .before .before .before .before .before .before .before .before .before .before .before .if4) .left, ← (c .before .before .before .before .before .before .before .before .before .before .before .before .before .before .before .before .before .before .before .before .before .before .before .before .before .facts-are-bad) .ensures, (c .before .before .before .before .before .before .before .before .before .before .before .before .before .before .before .before .before .before .before .before .before .before .before .before .if5) .left, ← ((c .before .before .before .before .before .before .before .before .before .before .before .before .before .before .before .before .before .before .before .before .before .before .before .script-totals) .ensures) .0, (c .before .before .before .before .before .before .before .before .before .before .before .before .before .before .before .before .before .before .before .before .before .before .if6) .left, ← (c .before .before .before .before .before .before .before .before .before .before .before .before .before .before .before .before .before .before .before .before .before .nodes-are-bad) .ensures, (c .before .before .before .before .before .before .before .before .before .before .before .before .before .before .before .before .before .before .before .before .if7) .left, ← (c .before .before .before .before .before .before .before .before .before .before .before .before .before .before .before .before .before .before .trees-are-bad) .ensures, (c .before .before .before .before .before .before .before .before .before .before .before .before .before .before .before .if8) .left, ← (c .before .before .before .before .before .before .before .before .before .before .before .before .before .names-are-declared-twice) .ensures, (c .before .before .before .before .before .before .before .before .before .before .if9) .left, ← (c .before .before .before .before .before .before .before .counts-are-bad) .ensures, (c .before .before .if10) .left, ← (c .before .room-is-short) .ensures, (c .if11) .left)
 
 pub check-spec : {M : Type 1} → statement M

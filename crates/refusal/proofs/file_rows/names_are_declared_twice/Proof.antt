@@ -17,10 +17,19 @@ size-requires c κs = search needs
 
 declared-twice-requires : tie.Need-declared-twice-requires
 unfolding declaratorsOf
-declared-twice-requires c κs =
-    (rw ((c .before .before .part-offsets) .ensures) (omega arith),
-    (((c .before .before .before .before .before) .pre) .1 .1 .1 .0, (((c .before .before .before .before .before) .pre) .1 .1 .1 .1 .0, (((c .before .before .before .before .before) .pre) .1 .1 .1 .1 .1,
-    rw ((c .before .before .part-offsets) .ensures, ((c .before .size) .ensures) .0, ((c .before .before .before .before .before) .pre) .0) (((c .before .before .before .before .before) .pre) .1 .1 .0)))))
+declared-twice-requires c κs = (
+  rw ((c .before .before .part-offsets) .ensures) (omega arith),
+  (
+    ((c .before .before .before .before .before) .pre) .1 .1 .1 .0,
+    (
+      ((c .before .before .before .before .before) .pre) .1 .1 .1 .1 .0,
+      (
+        ((c .before .before .before .before .before) .pre) .1 .1 .1 .1 .1,
+        rw ((c .before .before .part-offsets) .ensures, ((c .before .size) .ensures) .0, ((c .before .before .before .before .before) .pre) .0) (((c .before .before .before .before .before) .pre) .1 .1 .0),
+      ),
+    ),
+  ),
+)
 
 same-length : tie.Need-same-length
 same-length c = search needs
