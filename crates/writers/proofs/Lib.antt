@@ -1,1 +1,2 @@
--- No laws of its own.
+-- The laws that the proofs of several functions cite.
+pub mod Laid

@@ -1,0 +1,2 @@
+-- The work table that a fold edits.
+pub mod Table

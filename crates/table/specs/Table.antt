@@ -1,0 +1,15 @@
+-- The work table: 16 bytes to a node, its record and an end, which is unknown as long as nobody asked for it.
+use Prim.Native.Nat.{ℕ}
+use mathlib.Core.List.{List, _++_}
+use Rattle.records.specs.Bytes.{u32Bytes}
+use Rattle.records.specs.Limits.{noPosition}
+use Rattle.records.specs.Record.{nodeBytes}
+use Rattle.records.specs.declared.layout.NodeRecord.{NodeRecord}
+
+-- 4294967295: no end is known
+abbrev pub unknownEnd : ℕ
+unknownEnd = noPosition
+
+-- a record of the table
+unfoldable pub workBytes : NodeRecord → List ℕ
+workBytes n = nodeBytes n ++ u32Bytes unknownEnd

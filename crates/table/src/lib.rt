@@ -1,0 +1,76 @@
+// The work table: 16 bytes to a node, its record and an end. Only this crate knows the length of a node's record in a file.
+ghost use mathlib.Core.Path.{_≡_};
+ghost use mathlib.Core.List.{_++_};
+ghost use Prim.Native.Nat.{_+_, _*_, _≤_};
+ghost use lib.ListN.{length, drop};
+ghost use Rattle.records.specs.Record.{nodeAt, nodeBytes};
+ghost use Rattle.records.specs.Records.{recordsFrom, bytesOf};
+ghost use Rattle.table.specs.Table.{workBytes};
+use records::layout::NodeRecord;
+use records::layout::node_at;
+use writers::put::put_node;
+use writers::record_bytes::node_bytes;
+
+// A record of the table, its end unknown.
+fn work_bytes(n: NodeRecord) -> [u8; 16]
+    ensures { λ r. ⌜ r ≡ workBytes n ⌝ }
+{
+    let b = node_bytes(n);
+    [
+        b[0],
+        b[1],
+        b[2],
+        b[3],
+        b[4],
+        b[5],
+        b[6],
+        b[7],
+        b[8],
+        b[9],
+        b[10],
+        b[11],
+        255,
+        255,
+        255,
+        255,
+    ]
+}
+
+// Lays a record of the table down at the start of `out`.
+fn put_work_node(out: &mut [u8], n: NodeRecord)
+    requires { ⌜ 16 ≤ length (now out) ⌝ }
+    ensures { λ _. ⌜ now (out .exit) ≡ workBytes n ++ drop 16 (now (out .entry)) ⌝ }
+{
+    let record = work_bytes(n);
+    bytes::copy(&record, out);
+}
+
+// Copies the node records of a file, `count` from `from` on, to the start of the table.
+pub fn copy_nodes(file: &[u8], from: usize, count: usize, table: &mut [u8])
+    requires { ⌜ from + 12 * count ≤ length (now file) ⌝ }
+    requires { ⌜ 16 * count ≤ length (now table) ⌝ }
+    ensures { λ _. ⌜ now (table .exit) ≡ bytesOf workBytes (recordsFrom (nodeAt (now (file .entry))) 12 count from) ++ drop (16 * count) (now (table .entry)) ⌝ }
+{
+    let mut i = count;
+    while 0 < i {
+        i -= 1;
+        let n = node_at(file, from + 12 * i);
+        let at = 16 * i;
+        put_work_node(&mut table[at..], n);
+    }
+}
+
+// The node part of a file: lays the table's first `count` records down at the start of `out`.
+pub fn put_nodes(out: &mut [u8], table: &[u8], count: usize)
+    requires { ⌜ 16 * count ≤ length (now table) ⌝ }
+    requires { ⌜ 12 * count ≤ length (now out) ⌝ }
+    ensures { λ _. ⌜ now (out .exit) ≡ bytesOf nodeBytes (recordsFrom (nodeAt (now (table .entry))) 16 count 0) ++ drop (12 * count) (now (out .entry)) ⌝ }
+{
+    let mut i = count;
+    while 0 < i {
+        i -= 1;
+        let n = node_at(table, 16 * i);
+        let at = 12 * i;
+        put_node(&mut out[at..], n);
+    }
+}
