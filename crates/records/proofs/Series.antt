@@ -1,12 +1,13 @@
 -- Records in a series, passed one by one. Assumes nothing.
 use mathlib.Core.Path.{_≡_, refl, sym, ap, _∙_}
-use mathlib.Core.Bool.{Bool, true, false, _&&_, and-true, and-assoc, true≢false}
+use mathlib.Core.Bool.{Bool, true, false, _&&_, and-true, and-assoc}
 use mathlib.Core.List.{List, [], _∷_}
 use Prim.Native.Nat.{ℕ, zero, suc, _+_, _-_, _*_, _≤_, _<_}
 use native.Mathlib.Omega.{arith}
 use native.Mathlib.Nat.{add-zero, zero-add, add-assoc, add-comm, mul-zero, mul-one, mul-suc, mul-add, sub-zero}
 use lib.ListN.{length, getD}
 use Rattle.records.specs.Records.{recordsFrom, everyFrom}
+use Rattle.records.proofs.Tests.{and-left, and-right}
 
 module _ {A : Type 0} (readAt : ℕ → A) (len : ℕ) where
   -- of records that are left, the first and the rest
@@ -72,15 +73,6 @@ module _ {A : Type 0} {σ : List A → ℕ} {readAt : ℕ → A} {len n from : �
   pub summed-all : {sum : ℕ} {i : ℕ} → σ [] ≡ 0 → Summed σ readAt len n from sum i → n ≤ i → sum ≡ σ (recordsFrom readAt len n from)
   summed-all {sum} {i} law p h =
       sym (add-zero sum) ∙ ap (λ (m : ℕ). sum + m) (sym law) ∙ ap (λ (xs : List A). sum + σ xs) (sym (no-record readAt len n i (from + len * i) h)) ∙ p .same
-
--- both of two tests that hold together
-pub and-left : (a b : Bool) → (a && b) ≡ true → a ≡ true
-and-left true b e = refl
-and-left false b e = e
-
-pub and-right : (a b : Bool) → (a && b) ≡ true → b ≡ true
-and-right true b e = e
-and-right false b e = absurd (true≢false (sym e))
 
 -- a record of a series that passes a test
 pub passed-at : {A : Type 0} (good : ℕ → A → Bool) (readAt : ℕ → A) (len n i at k : ℕ) → everyFrom good i (recordsFrom readAt len n at) ≡ true → k < n

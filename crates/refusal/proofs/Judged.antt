@@ -9,7 +9,7 @@ use lib.ListN.{length, getD, take, drop, length-drop}
 use lib.Seq.{take-all}
 use lib.Dec.{eqb}
 use Rattle.records.specs.Records.{recordsFrom, everyFrom}
-use Rattle.records.specs.File.{one, initializers}
+use Rattle.records.specs.File.{initializers}
 use Rattle.records.specs.Tree.{Trees, count, rowOf, closed}
 use Rattle.records.specs.Place.{rootsStand, allPlaced, expressions, badTrees}
 use Rattle.records.specs.Count.{readsOf, targetsOf, goodCounts, badCounts}
@@ -22,10 +22,7 @@ use Rattle.refusal.specs.Stack.{entries, entryAt, rootStands}
 use Rattle.refusal.specs.Tally.{Tally}
 use Rattle.refusal.proofs.Rows.{entries-length, roots-entries}
 use Rattle.refusal.proofs.Stacks.{entries-part}
-
-one-most : (b : Bool) → one b ≤ 1
-one-most true = omega arith
-one-most false = omega arith
+use Rattle.refusal.proofs.Uses.{one-most}
 
 -- no more trees than records
 initializers-most : (ds : List DeclaratorRecord) → initializers ds ≤ length ds

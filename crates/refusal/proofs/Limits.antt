@@ -18,17 +18,14 @@ use Rattle.records.specs.declared.layout.Header.{Header}
 use Rattle.records.specs.declared.layout.NameFacts.{NameFacts}
 use Rattle.records.specs.declared.layout.DeclaratorRecord.{DeclaratorRecord}
 use Rattle.records.specs.declared.layout.StatementRecord.{StatementRecord}
-use Rattle.records.proofs.Series.{and-left, and-right, records-length}
+use Rattle.records.proofs.Series.{records-length}
+use Rattle.records.proofs.Tests.{and-left, and-right, neither, every-weaker}
 use Rattle.refusal.specs.Tally.{fits}
-
-or-left : (a b : Bool) → (a || b) ≡ false → a ≡ false
-or-left true b e = e
-or-left false b e = refl
 
 -- row 1
 pub long-enough : (bs : List ℕ) → notAScript bs ≡ false → 24 ≤ length bs
 unfolding notAScript
-long-enough bs e = ltb-false (length bs) 24 (or-left (ltb (length bs) 24) _ e)
+long-enough bs e = ltb-false (length bs) 24 ((neither (ltb (length bs) 24) _ e) .0)
 
 -- row 3
 counts-fit : (h : Header) → outsideLimits h ≡ false → countsFit h ≡ true
@@ -60,11 +57,6 @@ unfolding otherLength
 length-said bs h e = eqb-true _ _ (not-false _ e)
 
 -- row 6
-every-so : {A : Type 0} (f g : A → Bool) → ((x : A) → f x ≡ true → g x ≡ true) → (i : ℕ) (xs : List A) → everyFrom (λ k. f) i xs ≡ true → everyFrom (λ k. g) i xs ≡ true
-unfolding everyFrom
-every-so f g so i [] e = refl
-every-so f g so i (x ∷ xs) e = rw (so x (and-left (f x) _ e)) (every-so f g so (i + 1) xs (and-right (f x) _ e))
-
 name-fits : (a n : ℕ) (u : Bool) → n ≤ 256 → (b : Bool) → (b || ltb a n && u) ≡ true → (b || ltb a 256) ≡ true
 name-fits a n u h true e = refl
 name-fits a n u h false e = lt-ltb a 256 (let l = ltb-true a n (and-left (ltb a n) u e) in omega (arith, l, h))
@@ -77,7 +69,7 @@ declarator-fits names h d e =
 declarators-fit : (names : List NameFacts) (ds : List DeclaratorRecord) (ss : List StatementRecord) → length names ≤ 256 → badScript names ds ss ≡ false → every fits ds ≡ true
 unfolding badScript
 declarators-fit names ds ss h e =
-    every-so (goodDeclarator names) fits (declarator-fits names h) 0 ds
+    every-weaker (goodDeclarator names) fits (declarator-fits names h) ds
     (and-left (every (goodDeclarator names) ds) (every goodStatement ss) (and-left (every (goodDeclarator names) ds && every goodStatement ss) _ (not-false _ e)))
 
 -- of a file whose header is within its limits

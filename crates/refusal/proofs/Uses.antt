@@ -15,6 +15,10 @@ use Rattle.records.specs.Count.{targetName, firstTarget, nameRead, usesIn, uses
 use Rattle.records.specs.declared.layout.NodeRecord.{NodeRecord}
 use Rattle.refusal.specs.Tally.{headTarget, recordRead}
 
+pub one-most : (b : Bool) → one b ≤ 1
+one-most true = omega arith
+one-most false = omega arith
+
 module _ (named : Node → Trees → ℕ) (name : ℕ) where
   uses-split : (k : ℕ) (ts : Trees) → usesOf named name (firsts k ts) + usesOf named name (others k ts) ≡ usesOf named name ts
   unfolding usesOf firsts others
@@ -29,10 +33,6 @@ module _ (named : Node → Trees → ℕ) (name : ℕ) where
   uses-grown r row =
       add-assoc (one (eqb (named (nodeOf r) (firsts (r .children) row)) name)) _ _
       ∙ ap (λ (m : ℕ). one (eqb (named (nodeOf r) (firsts (r .children) row)) name) + m) (uses-split (r .children) row)
-
-  one-most : (b : Bool) → one b ≤ 1
-  one-most true = omega arith
-  one-most false = omega arith
 
   -- no more uses than records
   pub uses-most : (rs : List NodeRecord) → usesOf named name (rowOf rs) ≤ length rs

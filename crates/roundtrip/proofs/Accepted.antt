@@ -19,7 +19,7 @@ use Rattle.records.specs.Node.{goodNode, badNodes}
 use Rattle.records.specs.Place.{rootsStand, allPlaced, expressions, badTrees}
 use Rattle.records.specs.Count.{badCounts}
 use Rattle.records.specs.Refusal.{refusal, roomWanted}
-use Rattle.roundtrip.proofs.Tests.{both, all-three, neither}
+use Rattle.records.proofs.Tests.{both, all-three, neither}
 
 -- No row holds.
 pub record Accepted (bs : List ℕ) (room : ℕ) : Type 0 where

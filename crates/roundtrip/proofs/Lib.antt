@@ -1,5 +1,4 @@
 -- The round trip laws of the record file: `RoundTrip` has what the others lead to.
-pub mod Tests
 pub mod Rows
 pub mod Preorder
 pub mod Numbers

@@ -10,7 +10,7 @@ use borrow.Author.Tests.{leb-true, le-leb, eqb-true}
 use Rattle.records.specs.Records.{every}
 use Rattle.records.specs.Tree.{Tree, Trees, node, none, more, count, size, sizes, joined, firsts, others, recordOf, nodeOf, preorder, preorders, grown, rowOf, closed}
 use Rattle.records.specs.declared.layout.NodeRecord.{NodeRecord}
-use Rattle.roundtrip.proofs.Tests.{both, every-cons, every-parts}
+use Rattle.records.proofs.Tests.{both, every-cons, every-parts}
 use Rattle.roundtrip.proofs.Rows.{count-joined, joined-none, firsts-joined, others-joined, firsts-within, others-within, joined-cut, count-firsts, sizes-cut}
 
 -- the records of two rows joined

@@ -15,7 +15,7 @@ use Rattle.records.specs.File.{File, Initializer, bare, given, Declarator, Stat
 use Rattle.records.specs.Header.{notAScript, otherVersion, otherLength}
 use Rattle.records.specs.Script.{goodStatement, declaratorSum}
 use Rattle.records.specs.Place.{expressions}
-use Rattle.roundtrip.proofs.Tests.{every-more}
+use Rattle.records.proofs.Tests.{every-more}
 use Rattle.roundtrip.proofs.PrintedStatements.{declaratorRecords-append, kind-small, no-declaration}
 use Rattle.roundtrip.proofs.ReadStatements.{presentKnown, initializers-append}
 use Rattle.roundtrip.proofs.PrintedFile.{printed-header, printed-length}

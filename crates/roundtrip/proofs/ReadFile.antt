@@ -18,7 +18,7 @@ use Rattle.records.specs.declared.layout.NodeRecord.{NodeRecord}
 use Rattle.records.specs.declared.layout.DeclaratorRecord.{DeclaratorRecord}
 use Rattle.records.specs.declared.layout.NameFacts.{NameFacts}
 use Rattle.records.proofs.Series.{records-length}
-use Rattle.roundtrip.proofs.Tests.{both, every-weaker}
+use Rattle.records.proofs.Tests.{both, every-weaker}
 use Rattle.roundtrip.proofs.Preorder.{zeroed, preorders-rowOf-alone, sizes-rowOf}
 use Rattle.roundtrip.proofs.Series.{print-all}
 use Rattle.roundtrip.proofs.Formats.{name-reads, name-prints, scope-reads, scope-prints, frame-reads, frame-prints, node-reads, node-prints, declarator-reads, declarator-prints, statement-reads, statement-prints}

@@ -15,7 +15,7 @@ use Rattle.records.specs.Script.{goodStatement, declaratorSum}
 use Rattle.records.specs.Place.{expressions}
 use Rattle.records.specs.declared.layout.DeclaratorRecord.{DeclaratorRecord}
 use Rattle.records.specs.declared.layout.StatementRecord.{StatementRecord}
-use Rattle.roundtrip.proofs.Tests.{both, every-parts, every-cut}
+use Rattle.records.proofs.Tests.{both, every-parts, every-cut}
 use Rattle.roundtrip.proofs.Rows.{count-zero, count-others, others-zero, others-others}
 use Rattle.roundtrip.proofs.PrintedStatements.{declaratorRecords-length, declaratorRecords-append, declaration-read, declaration-trees}
 

@@ -4,12 +4,18 @@ use mathlib.Core.Bool.{Bool, true, false, _&&_, _||_, and-assoc, true≢false, f
 use mathlib.Core.List.{List, [], _∷_, _++_}
 use Prim.Native.Nat.{ℕ, _+_}
 use lib.ListN.{take, drop, take-append-drop}
 use Rattle.records.specs.Records.{every, everyFrom}
 
 -- both of two tests that hold together
 pub both : (a b : Bool) → (a && b) ≡ true → (a ≡ true) × (b ≡ true)
 both true b h = (refl, h)
 both false b h = absurd (false≢true h)
+
+pub and-left : (a b : Bool) → (a && b) ≡ true → a ≡ true
+and-left a b h = both a b h .0
+
+pub and-right : (a b : Bool) → (a && b) ≡ true → b ≡ true
+and-right a b h = both a b h .1
 
 -- all of three
 pub all-three : (a b c : Bool) → (a && b && c) ≡ true → (a ≡ true) × (b ≡ true) × (c ≡ true)
