@@ -30,8 +30,26 @@ const ACCEPTED_KEPT: usize = 13;
 /// Of the files with several facts changed one in so many is kept.
 const FACTS_KEPT: usize = 2503;
 
-/// The list, in the order in which it is written.
-pub fn answer_cases() -> Vec<Case> {
+/// A list that is kept in a file.
+pub struct List {
+    /// From the directory of the reference.
+    pub path: &'static str,
+    pub cases: Vec<Case>,
+}
+
+/// The kept lists: the answers of the fold, and the whole tables of refusals and limits.
+pub fn lists() -> [List; 2] {
+    [
+        List { path: "answers/answers.bin", cases: answer_cases() },
+        List {
+            path: "../crates/refusals/stdin",
+            cases: refusals().into_iter().chain(limits()).collect(),
+        },
+    ]
+}
+
+/// The answers of the fold, in the order in which they are written.
+fn answer_cases() -> Vec<Case> {
     let mut cases = Vec::new();
     cases.extend(scripts().iter().map(|it| Case::of_records(it.text, &it.file)));
     cases.extend(rules().iter().map(Rule::case));

@@ -5,8 +5,8 @@ use std::fs;
 use std::path::Path;
 use std::time::Instant;
 
-use super::write::{answers_path, script_paths};
-use crate::answer_list::answer_cases;
+use super::write::script_paths;
+use crate::answer_list::lists;
 use crate::answers::{entries, replay};
 use crate::checks::{Finding, Totals, check_file};
 use crate::fold::fold;
@@ -152,15 +152,18 @@ fn check_shapes() -> Result<String, String> {
     Ok(format!("the Rust folds {}", letters.join(", ")))
 }
 
-/// The kept list is the one that is made anew, and it reads back.
+/// The kept lists are those that are made anew, and they read back.
 fn check_answers(directory: &Path) -> Result<String, String> {
-    let kept = read(&answers_path(directory))?;
-    let cases = answer_cases();
-    let made = entries(&cases);
-    demand(kept == made, || "the kept list isn't the one made anew".into())?;
-    let count = replay(&kept)?;
-    demand(count == cases.len(), || format!("{count} entries, not {}", cases.len()))?;
-    Ok(format!("{count} entries, {} bytes, made anew byte for byte", kept.len()))
+    let mut said = Vec::new();
+    for list in lists() {
+        let (name, expected) = (list.path, list.cases.len());
+        let kept = read(&directory.join(list.path))?;
+        demand(kept == entries(&list.cases), || format!("{name} isn't the list made anew"))?;
+        let count = replay(&kept)?;
+        demand(count == expected, || format!("{name}: {count} entries, not {expected}"))?;
+        said.push(format!("{name}: {count} entries, {} bytes", kept.len()));
+    }
+    Ok(format!("{}, made anew byte for byte", said.join("; ")))
 }
 
 /// What `check_file` asks.

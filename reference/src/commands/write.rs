@@ -3,14 +3,9 @@
 use std::fs;
 use std::path::{Path, PathBuf};
 
-use crate::answer_list::answer_cases;
+use crate::answer_list::lists;
 use crate::answers::entries;
 use crate::scripts::{Script, scripts};
-
-/// The kept answers, below the directory of the reference.
-pub fn answers_path(directory: &Path) -> PathBuf {
-    directory.join("answers/answers.bin")
-}
 
 /// The file of a script and that of its result.
 pub fn script_paths(directory: &Path, script: &Script) -> (PathBuf, PathBuf) {
@@ -24,10 +19,12 @@ pub fn write_all(directory: &Path) -> Result<(), String> {
         put(&file, &script.file.to_bytes())?;
         put(&result, &script.result.to_bytes())?;
     }
-    let cases = answer_cases();
-    let bytes = entries(&cases);
-    println!("{} answers, {} bytes", cases.len(), bytes.len());
-    put(&answers_path(directory), &bytes)
+    for list in lists() {
+        let bytes = entries(&list.cases);
+        println!("{}: {} answers, {} bytes", list.path, list.cases.len(), bytes.len());
+        put(&directory.join(list.path), &bytes)?;
+    }
+    Ok(())
 }
 
 fn put(path: &Path, bytes: &[u8]) -> Result<(), String> {

@@ -13,6 +13,11 @@ pub fn letters_and_version(cases: &mut Cases) {
     cases.change_bytes(1, "second letter", |file| file[1] = b'F');
     cases.change_bytes(1, "third letter", |file| file[2] = 0);
     cases.change_bytes(4, "24 bytes", |file| file.truncate(24));
+    cases.change_bytes(4, "longer than any file", |file| file.resize(65536, 0));
+    cases.change_bytes(1, "longer than any file, not a script", |file| {
+        file.resize(65536, 0);
+        file[0] = 0;
+    });
     for version in [0, 2, 256, 257, 65535] {
         cases.header(2, &format!("version {version}"), 4, version);
     }
