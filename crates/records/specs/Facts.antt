@@ -7,7 +7,6 @@ use lib.Dec.{eqb, ltb}
 use Rattle.records.specs.Limits.{noNumber}
 use Rattle.records.specs.Flags.{recorded, unresolved, isEval}
 use Rattle.records.specs.Records.{every, everyFrom}
-use Rattle.records.specs.File.{namesOf, scopesOf, framesOf}
 use Rattle.records.specs.declared.layout.NameFacts.{NameFacts}
 use Rattle.records.specs.declared.layout.Scope.{Scope}
 use Rattle.records.specs.declared.layout.Frame.{Frame}
