@@ -1,4 +1,5 @@
 -- The laws that the proofs of several functions cite.
 pub mod Tests
 pub mod Series
+pub mod Behind
 pub mod Names

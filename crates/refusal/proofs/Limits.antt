@@ -20,7 +20,7 @@ use Rattle.records.specs.declared.layout.DeclaratorRecord.{DeclaratorRecord}
 use Rattle.records.specs.declared.layout.StatementRecord.{StatementRecord}
 use Rattle.records.proofs.Series.{records-length}
 use Rattle.records.proofs.Tests.{and-left, and-right, neither, every-weaker}
-use Rattle.refusal.specs.Tally.{fits}
+use Rattle.uses.specs.Tally.{fits}
 
 -- row 1
 pub long-enough : (bs : List ℕ) → notAScript bs ≡ false → 24 ≤ length bs

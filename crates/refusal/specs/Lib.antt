@@ -1,4 +1,2 @@
--- What the checks of whole trees keep beside a file.
-pub mod Stack
-pub mod Tally
+-- The answer and its number.
 pub mod Number

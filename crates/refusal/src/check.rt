@@ -4,7 +4,7 @@ ghost use Prim.Native.Nat.{_≤_, _<_};
 ghost use lib.ListN.{length};
 ghost use Rattle.records.specs.Refusal.{refusal as refusalOf};
 ghost use Rattle.refusal.specs.Number.{number};
-ghost use Rattle.refusal.specs.Tally.{Tally};
+ghost use Rattle.uses.specs.Tally.{Tally};
 use crate::answer::Refusal;
 use crate::file_rows::counts_are_bad;
 use crate::file_rows::facts_are_bad;

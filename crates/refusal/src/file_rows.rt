@@ -14,12 +14,7 @@ ghost use Rattle.records.specs.Count.{badCounts};
 ghost use Rattle.records.specs.Tree.{rowOf};
 ghost use Rattle.records.specs.File.{fileLength, namesOf, scopesOf, framesOf, nodesOf, declaratorsOf, statementsOf, initializers};
 ghost use Rattle.records.specs.Refusal.{roomWanted};
-ghost use Rattle.refusal.specs.Tally.{Tally, fits};
-use crate::count::count_uses;
-use crate::count::counts_are_good;
-use crate::declared::declared_twice;
-use crate::place::roots_stand;
-use crate::tree::tree_totals;
+ghost use Rattle.uses.specs.Tally.{Tally, fits};
 use records::facts::frames_are_good;
 use records::facts::names_are_good;
 use records::facts::scopes_are_good;
@@ -29,6 +24,11 @@ use records::node::nodes_are_good;
 use records::number::size;
 use records::script::declarator_totals;
 use records::script::statement_totals;
+use trees::place::roots_stand;
+use trees::tree::tree_totals;
+use uses::count::count_uses;
+use uses::count::counts_are_good;
+use uses::declared::declared_twice;
 
 // Row 5.
 pub fn facts_are_bad(file: &[u8], h: Header) -> bool

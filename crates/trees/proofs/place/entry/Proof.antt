@@ -1,0 +1,25 @@
+-- `trees::place::entry` meets its contract. Assumes nothing.
+use mathlib.Core.Path.{_≡_, refl, sym, ap, _∙_}
+use native.Mathlib.Nat.{add-zero}
+use Rattle.trees.specs.Stack.{entry}
+use native.Mathlib.Omega.{arith}
+use borrow.Author.Needs.{needs}
+use Rattle.trees.proofs.place.entry.Statement.{statement}
+use Rattle.trees.proofs.place.entry.Tie as tie
+
+mul-twice : tie.Need-mul-twice
+mul-twice c = search needs
+
+add-result : tie.Need-add-result
+add-result c = search needs
+
+returns : tie.Need-returns
+unfolding entry
+returns c = rw ((c .if1) .taken)
+
+returns-2 : tie.Need-returns-2
+unfolding entry
+returns-2 c = rw ((c .if1) .left, add-zero)
+
+pub entry-spec : {M : Type 1} → statement M
+entry-spec = tie.close (tie.spec mul-twice add-result returns returns-2)

@@ -1,0 +1,12 @@
+-- `trees::place::is_expression` meets its contract. Assumes nothing.
+use mathlib.Core.Path.{_≡_, refl, sym, ap, _∙_}
+use Rattle.records.specs.Place.{isExpression}
+use Rattle.trees.proofs.place.is_expression.Statement.{statement}
+use Rattle.trees.proofs.place.is_expression.Tie as tie
+
+returns : tie.Need-returns
+unfolding isExpression
+returns c = refl
+
+pub is-expression-spec : {M : Type 1} → statement M
+is-expression-spec = tie.close (tie.spec returns)

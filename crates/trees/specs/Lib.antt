@@ -1,0 +1,2 @@
+-- What is kept of trees while they are checked.
+pub mod Stack

@@ -1,0 +1,20 @@
+-- `uses::count::count_is_good` meets its contract. Assumes nothing.
+use mathlib.Core.Path.{_≡_, refl, sym, ap, _∙_}
+use native.Mathlib.Omega.{arith}
+use Rattle.records.specs.Count.{goodCounts}
+use borrow.Author.Needs.{needs}
+use Rattle.uses.proofs.count.count_is_good.Statement.{statement}
+use Rattle.uses.proofs.count.count_is_good.Tie as tie
+
+wide16-requires : tie.Need-wide16-requires
+wide16-requires c κs = search needs
+
+wide16-requires-2 : tie.Need-wide16-requires-2
+wide16-requires-2 c κs = search needs
+
+returns : tie.Need-returns
+unfolding goodCounts
+returns c = rw (((c .before .before .before .wide16) .ensures) .0, ((c .before .wide162) .ensures) .0)
+
+pub count-is-good-spec : {M : Type 1} → statement M
+count-is-good-spec = tie.close (tie.spec wide16-requires wide16-requires-2 returns)

@@ -1,0 +1,2 @@
+-- What is counted for each name.
+pub mod Tally
