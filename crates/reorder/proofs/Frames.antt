@@ -1,0 +1,78 @@
+-- Frames that are searched from the last. Assumes nothing.
+use mathlib.Core.Path.{_≡_, refl, sym, ap, _∙_}
+use mathlib.Core.Bool.{Bool, true, false, not, _&&_, _||_, cond, or-true}
+use mathlib.Core.List.{List, [], _∷_}
+use Prim.Native.Nat.{ℕ, zero, suc, _+_, _-_, _*_, _≤_, _<_}
+use native.Mathlib.Omega.{arith}
+use native.Mathlib.Nat.{mul-zero, add-zero, sub-zero}
+use lib.Dec.{eqb}
+use Rattle.records.specs.Limits.{noNumber}
+use Rattle.records.specs.Records.{recordsFrom, everyFrom}
+use Rattle.records.specs.declared.layout.Frame.{Frame}
+use Rattle.records.proofs.Behind.{one-more, all-left}
+use Rattle.records.proofs.Tests.{neither, every-from}
+use Rattle.walk.specs.This.{hasOwner, framesFromOwner, isInitialisedAt, thisBlocks}
+
+-- no frame behind the i that are left has the scope; `waits` says that none of them was initialised
+pub record Searching (readAt : ℕ → Frame) (len n from scope position : ℕ) (waits : Bool) (i : ℕ) : Type 0 where
+  pub within : i ≤ n
+  pub unowned : hasOwner scope (recordsFrom readAt len (n - i) (from + len * i)) ≡ false
+  pub judged : waits ≡ everyFrom (λ k f. not (isInitialisedAt position f)) 0 (recordsFrom readAt len (n - i) (from + len * i))
+
+module _ {readAt : ℕ → Frame} {len n from scope position : ℕ} where
+  pub searching-none : Searching readAt len n from scope position true n
+  unfolding recordsFrom hasOwner everyFrom
+  searching-none = let none : n - n ≡ 0 = omega arith in record { within = omega arith; unowned = rw none; judged = rw none }
+
+  pub searching-more : {waits : Bool} {i : ℕ} (f : Frame) (b : Bool) (j : ℕ) → Searching readAt len n from scope position waits i → i ≡ j + 1
+      → f ≡ readAt (from + len * j) → b ≡ isInitialisedAt position f → eqb (f .scope) scope ≡ false
+      → Searching readAt len n from scope position (not b && waits) j
+  unfolding hasOwner everyFrom
+  searching-more {waits} {i} f b j p ei ef eb eo = record {
+    within = omega arith;
+    unowned = rw (one-more readAt len n from i j ei (p .within), ← ef, eo) (p .unowned);
+    judged =
+        rw (one-more readAt len n from i j ei (p .within), ← ef, eb, p .judged)
+        (ap (λ (w : Bool). not (isInitialisedAt position f) && w) (every-from (λ g. not (isInitialisedAt position g)) 0 1 (recordsFrom readAt len (n - i) (from + len * i))));
+  }
+
+-- no frame counts where none has the scope
+none-owned : (scope : ℕ) (fs : List Frame) → hasOwner scope fs ≡ false → framesFromOwner scope fs ≡ []
+unfolding hasOwner framesFromOwner
+none-owned scope [] e = refl
+none-owned scope (f ∷ fs) e = let p = neither (eqb (f .scope) scope) (hasOwner scope fs) e in rw (p .0, p .1)
+
+-- where some frame of the last n - k has the scope, only those count
+owner-kept : (readAt : ℕ → Frame) (len n from scope k : ℕ) → k ≤ n → hasOwner scope (recordsFrom readAt len (n - k) (from + len * k)) ≡ true
+    → (hasOwner scope (recordsFrom readAt len n from) ≡ true)
+    × (framesFromOwner scope (recordsFrom readAt len n from) ≡ framesFromOwner scope (recordsFrom readAt len (n - k) (from + len * k)))
+unfolding hasOwner framesFromOwner
+owner-kept readAt len n from scope zero h e =
+    let all = all-left readAt len n from 0 (omega arith) in (rw (← all) e, rw (← all))
+owner-kept readAt len n from scope (suc k) h e =
+    let front = one-more readAt len n from (suc k) k (omega arith) h in
+    let before = owner-kept readAt len n from scope k (omega arith) (rw (front, e) (or-true (eqb (readAt (from + len * k) .scope) scope))) in
+    (before .0, before .1 ∙ rw (front, e))
+
+module _ {readAt : ℕ → Frame} {len n from scope position : ℕ} where
+  -- the last frame that has the scope is found
+  pub searching-found : {waits : Bool} {i : ℕ} (f : Frame) (b : Bool) (j : ℕ) → Searching readAt len n from scope position waits i → i ≡ j + 1
+      → f ≡ readAt (from + len * j) → b ≡ isInitialisedAt position f → eqb (f .scope) scope ≡ true → eqb scope noNumber ≡ false
+      → (not b && waits) ≡ thisBlocks scope (recordsFrom readAt len n from) position
+  unfolding thisBlocks hasOwner framesFromOwner everyFrom
+  searching-found {waits} {i} f b j p ei ef eb eo en =
+      let front = one-more readAt len n from i j ei (p .within) in
+      let kept = owner-kept readAt len n from scope j (omega (arith, p .within)) (rw (front, ← ef, eo)) in
+      rw (en, kept .1, front, ← ef, p .unowned, eo, eb, p .judged)
+      (ap (λ (w : Bool). not (isInitialisedAt position f) && w) (every-from (λ g. not (isInitialisedAt position g)) 0 1 (recordsFrom readAt len (n - i) (from + len * i))))
+
+  -- no frame has it
+  pub searching-all : {waits : Bool} {i : ℕ} → Searching readAt len n from scope position waits i → i ≤ 0 → eqb scope noNumber ≡ false
+      → true ≡ thisBlocks scope (recordsFrom readAt len n from) position
+  unfolding thisBlocks everyFrom
+  searching-all {i = i} p h en =
+      rw (en, none-owned scope (recordsFrom readAt len n from) (rw (← all-left readAt len n from i h) (p .unowned)))
+
+pub no-scope : (scope : ℕ) (fs : List Frame) (position : ℕ) → eqb scope noNumber ≡ true → false ≡ thisBlocks scope fs position
+unfolding thisBlocks
+no-scope scope fs position e = rw e

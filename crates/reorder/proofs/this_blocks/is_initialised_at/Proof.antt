@@ -1,0 +1,13 @@
+-- `reorder::this_blocks::is_initialised_at` meets its contract. Assumes nothing.
+use mathlib.Core.Path.{_≡_, refl, sym, ap, _∙_}
+use native.Mathlib.Omega.{arith}
+use Rattle.walk.specs.This.{isInitialisedAt}
+use Rattle.reorder.proofs.this_blocks.is_initialised_at.Statement.{statement}
+use Rattle.reorder.proofs.this_blocks.is_initialised_at.Tie as tie
+
+returns : tie.Need-returns
+unfolding isInitialisedAt
+returns c = refl
+
+pub is-initialised-at-spec : {M : Type 1} → statement M
+is-initialised-at-spec = tie.close (tie.spec returns)

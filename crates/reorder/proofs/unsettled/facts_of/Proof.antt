@@ -1,0 +1,29 @@
+-- `reorder::unsettled::facts_of` meets its contract. Assumes nothing.
+use mathlib.Core.Path.{_≡_, refl, sym, ap, _∙_}
+use native.Mathlib.Omega.{arith}
+use Rattle.reorder.proofs.Climbing.{name-known, name-none}
+use borrow.Author.Needs.{needs}
+use Rattle.reorder.proofs.unsettled.facts_of.Statement.{statement}
+use Rattle.reorder.proofs.unsettled.facts_of.Tie as tie
+
+size-requires : tie.Need-size-requires
+size-requires c κs = search needs
+
+mul-name-at : tie.Need-mul-name-at
+mul-name-at c = search needs
+
+add-name-at : tie.Need-add-name-at
+add-name-at c = search needs
+
+name-at-requires : tie.Need-name-at-requires
+name-at-requires c κs = search needs
+
+returns : tie.Need-returns
+returns c = name-known ((c .before .before .before .before .before .before) .args .file .now) ((c .before .before .before .before .before .before) .args .h) (((c .before .before .before .before .before .before) .pre) .0) ((c .before .before .before .before .before .before) .args .name .0) _ ((c .name-at) .result) ((c .before .before .if1) .taken) (rw (((c .before .size) .ensures) .0)) ((c .name-at) .ensures)
+
+returns-2 : tie.Need-returns-2
+returns-2 c = name-none ((c .before .before .before .before) .args .file .now) ((c .before .before .before .before) .args .h) (((c .before .before .before .before) .pre) .0) ((c .before .before .before .before) .args .name .0) ((c .if1) .left)
+
+pub facts-of-spec : {M : Type 1} → statement M
+facts-of-spec =
+    tie.close (tie.spec size-requires mul-name-at add-name-at name-at-requires returns returns-2)

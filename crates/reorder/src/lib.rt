@@ -1,0 +1,4 @@
+// What may not change places with another step: unsettled names, `this`, the parts of a member.
+pub mod member_part;
+pub mod this_blocks;
+pub mod unsettled;

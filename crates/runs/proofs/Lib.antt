@@ -1,0 +1,3 @@
+-- Runs that are computed, and a meaning of which the facts are true.
+pub mod Examples
+pub mod Witness

@@ -1,0 +1,20 @@
+-- Steps: where one comes from, and what it has in hand.
+use Prim.Native.Nat.{ℕ}
+use Rattle.records.specs.File.{DeclarationKind}
+use Rattle.runs.specs.Hand.{Hand}
+
+-- What a member or a target is evaluated for: its value; a plain assignment to it; its deletion. (For the last two ECMA-262
+-- reads no property, 13.15.2 and 13.5.1.2, so what is given there may be another value.)
+pub data Role : Type 0 where
+  value target deleted : Role
+
+-- "Two steps are the same if they come from nodes of one kind, label and flags, from declarators of one statement kind and
+-- name, or from kind 6 statements." A node's numbers stand in this order: kind, label, flags.
+pub data Origin : Type 0 where
+  ofNode : ℕ → ℕ → ℕ → Role → Origin
+  ofDeclarator : DeclarationKind → ℕ → Origin
+  ofOther : Origin
+
+pub record Step (Value : Type 0) : Type 0 where
+  pub origin : Origin
+  pub hand : Hand Value

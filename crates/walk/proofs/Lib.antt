@@ -1,0 +1,6 @@
+-- Examples of the rules, by computation; the sizes of what a search leaves.
+pub mod Build
+pub mod Computed
+pub mod Facts
+pub mod Searches
+pub mod Sizes
