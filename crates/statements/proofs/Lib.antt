@@ -4,3 +4,4 @@ pub mod Computed
 pub mod Scripts
 pub mod Answers
 pub mod Totals
+pub mod Lengths

@@ -1,0 +1,217 @@
+-- The two tables of kinds, that of the search and that of the run, agree; so do their ways with a shorthand.
+use Prim.Native.Nat.{ℕ, _+_, _-_, _/_, _%_}
+use native.Mathlib.Omega.{arith}
+use mathlib.Core.Bool.{Bool, true, false, cond, _&&_, _||_, not}
+use mathlib.Core.Path.{_≡_, refl, sym, ap, _∙_}
+use lib.Dec.{eqb}
+use borrow.Author.Tests.{eqb-true, eq-eqb, ne-eqb, eqb-false}
+use Rattle.records.specs.Flags.{bit, marked, optional, compound, shorthand, computed, proto}
+use Rattle.records.specs.Node.{isLink, twoChildren}
+use Rattle.records.specs.Tree.{Node}
+use Rattle.walk.specs.Shape.{Choice as Way, never as always, skips, cuts, picks, Shape, constant as literal, identifier, targetName as aim, leaf as lone, chain as links, import, delete, sequence as row, property as pair, stopping, assignment as assigning, steps, shape, cleared as walked, isMemberExpression}
+use Rattle.walk.specs.Effect.{hasEffect}
+use Rattle.runs.specs.Form.{is, cleared, isMarked, isDelete, Choice, never, logical, conditional, optionally, Form, constant, name, targetName, leaf, chain, property, importing, sequence, assignment, stepping, form, order, isAssignment}
+
+-- tests
+pub and-true : (x y : Bool) → (x && y) ≡ true → (x ≡ true) × (y ≡ true)
+and-true true y e = (refl, e)
+and-true false y e = (cc, cc)
+
+pub or-none : (x y : Bool) → (x || y) ≡ false → (x ≡ false) × (y ≡ false)
+or-none true y e = (e, cc)
+or-none false y e = (refl, e)
+
+pub not-on : (x : Bool) → not x ≡ true → x ≡ false
+not-on true e = sym e
+not-on false e = refl
+
+pub by-or : {A : Type 0} (x y : Bool) → (x ≡ true → A) → (y ≡ true → A) → (x || y) ≡ true → A
+by-or true y f g e = f refl
+by-or false y f g e = g e
+
+pub and-off : (x y : Bool) → y ≡ false → (x && y) ≡ false
+and-off true y e = e
+and-off false y e = refl
+
+pub clash : {A : Type 0} (b : Bool) → b ≡ false → b ≡ true → A
+clash b e g = absurd (let z : _≡_ {A = ℕ} 0 1 = cc in omega arith)
+
+-- the kinds of a form
+unfoldable pub kindsOf : Form → Node → Bool
+kindsOf constant n = is 1 n || is 2 n || is 27 n
+kindsOf name n = is 4 n
+kindsOf targetName n = is 29 n
+kindsOf leaf n = is 0 n || is 3 n || is 5 n || is 30 n
+kindsOf chain n = is 13 n
+kindsOf property n = is 26 n && not (twoChildren (n .flags))
+kindsOf importing n = is 8 n
+kindsOf sequence n = is 28 n
+kindsOf (assignment c) n = is 20 n
+kindsOf (stepping never) n = true
+kindsOf (stepping logical) n = is 17 n
+kindsOf (stepping conditional) n = is 19 n
+kindsOf (stepping optionally) n = isLink (n .kind) && optional (n .flags)
+
+data Of (n : Node) (f : Form) : Type 0 where
+  of : kindsOf f n ≡ true → Of n f
+
+of-by : (n : Node) (x : Form) {y : Form} (b : Bool) → kindsOf x n ≡ b → Of n y → Of n (cond b x y)
+of-by n x true e h = of e
+of-by n x false e h = h
+
+of-at : (n : Node) (x : Form) {y : Form} → Of n y → Of n (cond (kindsOf x n) x y)
+of-at n x h = of-by n x (kindsOf x n) refl h
+
+of-form : (n : Node) → Of n (form n)
+unfolding form kindsOf
+of-form n =
+    of-at n constant (of-at n name (of-at n targetName (of-at n leaf (of-at n chain (of-at n property (of-at n importing (of-at n sequence
+    (of-at n (assignment (compound (n .flags))) (of-at n (stepping logical) (of-at n (stepping conditional) (of-at n (stepping optionally) (of refl))))))))))))
+
+pub kinds : (n : Node) → kindsOf (form n) n ≡ true
+kinds n = told (of-form n)
+  where
+    told : {f : Form} → Of n f → kindsOf f n ≡ true
+    told (of e) = e
+
+-- A shorthand.
+bit-same : (w f g : ℕ) → f / w % 2 ≡ g / w % 2 → bit w f ≡ bit w g
+bit-same w f g e = ap (λ z. eqb z 1) e
+
+-- the flags of a property whose shorthand is cleared
+abbrev pub clearedFlags : ℕ → ℕ
+clearedFlags f = cond (proto f) (f + 16) (f - 16)
+
+marked-by : (f : ℕ) (p : Bool) → shorthand f ≡ true → marked (cond p (f + 16) (f - 16)) ≡ marked f
+marked-by f true e = bit-same 1 (f + 16) f (omega arith)
+marked-by f false e = let h = eqb-true (f / 16 % 2) 1 e in bit-same 1 (f - 16) f (omega arith)
+
+-- without bit 4 the higher bits are the same
+above : (f : ℕ) → f / 16 % 2 ≡ 1 → (f - 16) / 32 ≡ f / 32
+above f h = omega arith
+
+-- bit 4 goes over into bit 5
+carry : (f : ℕ) → f / 16 % 2 ≡ 1 → (f + 16) / 32 ≡ f / 32 + 1
+carry f h = omega arith
+
+halves : (f g : ℕ) → f / 32 % 2 ≡ 0 → g / 32 ≡ f / 32 + 1 → g / 64 ≡ f / 64
+halves f g h e = omega arith
+
+halved : (f g : ℕ) → g / 32 ≡ f / 32 → g / 64 ≡ f / 64
+halved f g e = omega arith
+
+odd-next : (x y : ℕ) → x % 2 ≡ 1 → y ≡ x + 1 → y % 2 ≡ 1 → ⊥
+odd-next x y h e g = omega arith
+
+zero-bit : (x : ℕ) → (x % 2 ≡ 1 → ⊥) → x % 2 ≡ 0
+zero-bit x h = omega (arith, h)
+
+two-by : (f : ℕ) (p c : Bool) → shorthand f ≡ true → proto f ≡ p → computed f ≡ c → twoChildren (cond p (f + 16) (f - 16)) ≡ (c && not p)
+two-by f true true s p c =
+    let z : computed (f + 16) ≡ false = ne-eqb ((f + 16) / 32 % 2) 1 (odd-next (f / 32) ((f + 16) / 32) (eqb-true (f / 32 % 2) 1 c) (carry f (eqb-true (f / 16 % 2) 1 s))) in
+    rw z
+two-by f true false s p c =
+    let i : f / 32 % 2 ≡ 0 = zero-bit (f / 32) (eqb-false (f / 32 % 2) 1 c) in
+    let z : proto (f + 16) ≡ proto f = bit-same 64 (f + 16) f (ap (λ x. x % 2) (halves f (f + 16) i (carry f (eqb-true (f / 16 % 2) 1 s)))) in
+    rw (z, p) (and-off (computed (f + 16)) false refl)
+two-by f false c s p e =
+    let h : (f - 16) / 32 ≡ f / 32 = above f (eqb-true (f / 16 % 2) 1 s) in
+    let z : computed (f - 16) ≡ computed f = bit-same 32 (f - 16) f (ap (λ x. x % 2) h) in
+    let y : proto (f - 16) ≡ proto f = bit-same 64 (f - 16) f (ap (λ x. x % 2) (halved f (f - 16) h)) in
+    rw (z, y, e, p)
+
+short-by : (f : ℕ) (p : Bool) → shorthand f ≡ true → shorthand (cond p (f + 16) (f - 16)) ≡ false
+short-by f true e = let h = eqb-true (f / 16 % 2) 1 e in ne-eqb ((f + 16) / 16 % 2) 1 (omega arith)
+short-by f false e = let h = eqb-true (f / 16 % 2) 1 e in ne-eqb ((f - 16) / 16 % 2) 1 (omega arith)
+
+-- to clear a shorthand twice is to clear it once
+again : (b i : Bool) (f x : ℕ) → (i && shorthand f) ≡ b → cond (i && shorthand (cond b (clearedFlags f) f)) x (cond b (clearedFlags f) f) ≡ cond b (clearedFlags f) f
+again true i f x e = let z : (i && shorthand (clearedFlags f)) ≡ false = and-off i _ (short-by f (proto f) (and-true i _ e .1)) in rw z
+again false i f x e = rw e
+
+pub cleared-once : (n : Node) → cleared (cleared n) ≡ cleared n
+unfolding cleared
+cleared-once n = λ j. record { kind = n .kind; flags = again (is 26 n && shorthand (n .flags)) (is 26 n) (n .flags) (clearedFlags (cleared n .flags)) refl j; label = n .label; position = n .position }
+
+-- the search clears as the run does
+walked-by : (b p : Bool) (f : ℕ) → (b ≡ true → shorthand f ≡ true) → cond b (f - 16 + cond p 32 0) f ≡ cond b (cond p (f + 16) (f - 16)) f
+walked-by true true f e = let h = eqb-true (f / 16 % 2) 1 (e refl) in omega arith
+walked-by true false f e = omega arith
+walked-by false p f e = refl
+
+pub walked-cleared : (n : Node) → walked n ≡ cleared n
+unfolding walked cleared
+walked-cleared n = λ j. record { kind = n .kind; flags = walked-by (is 26 n && shorthand (n .flags)) (proto (n .flags)) (n .flags) (λ e. and-true (is 26 n) _ e .1) j; label = n .label; position = n .position }
+
+marked-at : (b : Bool) (f : ℕ) → (b ≡ true → shorthand f ≡ true) → marked (cond b (clearedFlags f) f) ≡ marked f
+marked-at true f e = marked-by f (proto f) (e refl)
+marked-at false f e = refl
+
+pub marked-cleared : (n : Node) → marked (cleared n .flags) ≡ marked (n .flags)
+unfolding cleared
+marked-cleared n = marked-at (is 26 n && shorthand (n .flags)) (n .flags) (λ e. and-true (is 26 n) _ e .1)
+
+-- The form of a shape.
+unfoldable pub choosing : Way → Choice
+choosing always = never
+choosing skips = logical
+choosing cuts = optionally
+choosing picks = conditional
+
+unfoldable pub formOf : Shape → Form
+formOf literal = constant
+formOf identifier = name
+formOf aim = targetName
+formOf lone = leaf
+formOf links = chain
+formOf import = importing
+formOf delete = stepping never
+formOf row = sequence
+formOf pair = property
+formOf stopping = stepping never
+formOf (assigning c) = assignment c
+formOf (steps w) = stepping (choosing w)
+
+two-at : (b : Bool) (f : ℕ) → shorthand f ≡ b → twoChildren (cond b (clearedFlags f) f) ≡ twoChildren f
+two-at true f e = two-by f (proto f) (computed f) e refl refl
+two-at false f e = refl
+
+property-form : (b : Bool) → cond (not b) property (stepping never) ≡ formOf (cond b stopping pair)
+unfolding formOf
+property-form true = refl
+property-form false = refl
+
+or-assoc : (x y z u : Bool) → (x || y || z || u) ≡ ((x || y || z) || u)
+or-assoc true y z u = refl
+or-assoc false true z u = refl
+or-assoc false false true u = refl
+or-assoc false false false u = refl
+
+-- row by row
+rows : (a b c d e f g h i j k o : Bool)
+    → cond a constant (cond b name (cond c targetName (cond d leaf (cond e chain (cond f importing (cond g sequence (cond h (assignment i) (cond j (stepping logical) (cond k (stepping conditional) (cond o (stepping optionally) (stepping never)))))))))))
+    ≡ formOf (cond a literal (cond b identifier (cond c aim (cond d lone (cond e links (cond f import (cond g row (cond h (assigning i) (cond j (steps skips) (cond k (steps picks) (cond o (steps cuts) (steps always))))))))))))
+unfolding formOf choosing
+rows true b c d e f g h i j k o = refl
+rows false true c d e f g h i j k o = refl
+rows false false true d e f g h i j k o = refl
+rows false false false true e f g h i j k o = refl
+rows false false false false true f g h i j k o = refl
+rows false false false false false true g h i j k o = refl
+rows false false false false false false true h i j k o = refl
+rows false false false false false false false true i j k o = refl
+rows false false false false false false false false i true k o = refl
+rows false false false false false false false false i false true o = refl
+rows false false false false false false false false i false false true = refl
+rows false false false false false false false false i false false false = refl
+
+by-kind : (n : Node) (x y z : Bool) → is 26 n ≡ x → (is 9 n && eqb (n .label) 1) ≡ y → is 25 n ≡ z → form (cleared n) ≡ formOf (shape n)
+unfolding form shape cleared
+by-kind n true y z e g h = rw (eqb-true (n .kind) 26 e) (ap (λ b. cond (not b) property (stepping never)) (two-at (shorthand (n .flags)) (n .flags) refl) ∙ property-form (twoChildren (n .flags)))
+by-kind n false true z e g h = rw (eqb-true (n .kind) 9 (and-true (is 9 n) _ g .0), and-true (is 9 n) _ g .1) (unfold formOf in refl)
+by-kind n false false true e g h = rw (eqb-true (n .kind) 25 h) (unfold formOf in refl)
+by-kind n false false false e g h =
+    rw (e, g, h, or-assoc (is 10 n) (is 11 n) (is 12 n) (is 14 n)) (rows (is 1 n || is 2 n || is 27 n) (is 4 n) (is 29 n) (is 0 n || is 3 n || is 5 n || is 30 n) (is 13 n) (is 8 n) (is 28 n) (is 20 n) (compound (n .flags)) (is 17 n) (is 19 n) (((is 10 n || is 11 n || is 12 n) || is 14 n) && optional (n .flags)))
+
+pub form-shape : (n : Node) → form (cleared n) ≡ formOf (shape n)
+form-shape n = by-kind n (is 26 n) (is 9 n && eqb (n .label) 1) (is 25 n) refl refl refl

@@ -1,0 +1,56 @@
+-- Trees whose nodes are good by themselves, with as many children as they have: row 7 of the refusal table, for trees.
+use Prim.Native.Nat.{ℕ, _≤_}
+use native.Mathlib.Omega.{arith}
+use mathlib.Core.Bool.{Bool, true, false, cond, _&&_, _||_, not}
+use mathlib.Core.List.{List, [], _∷_}
+use mathlib.Core.Path.{_≡_, refl, sym, ap, _∙_}
+use lib.ListN.{length, getD}
+use lib.Dec.{eqb, ltb, leb}
+use borrow.Author.Tests.{eqb-true}
+use Rattle.records.specs.Flags.{marked}
+use Rattle.records.specs.Limits.{noPosition}
+use Rattle.records.specs.Script.{flagsOf}
+use Rattle.records.specs.Node.{isNamed, fewest, most, goodChildren, goodFlags, mayMark, goodNodeOf, goodNode}
+use Rattle.records.specs.Tree.{Node, Tree, Trees, node, none, more, count, recordOf}
+use Rattle.records.specs.declared.layout.NameFacts.{NameFacts}
+use Rattle.records.specs.declared.layout.NodeRecord.{NodeRecord}
+use Rattle.preservation.proofs.Tables.{and-true, by-or}
+
+unfoldable mutual
+  pub wellMade : List NameFacts → Tree → Bool
+  wellMade names (node n kids) = goodNode names (recordOf n (count kids)) && allWellMade names kids
+
+  pub allWellMade : List NameFacts → Trees → Bool
+  allWellMade names none = true
+  allWellMade names (more t ts) = wellMade names t && allWellMade names ts
+
+module _ (names : List NameFacts) where
+  pub well-node : (n : Node) (ts : Trees) → wellMade names (node n ts) ≡ true → (goodNode names (recordOf n (count ts)) ≡ true) × (allWellMade names ts ≡ true)
+  unfolding wellMade
+  well-node n ts e = and-true _ (allWellMade names ts) e
+
+  pub well-more : (t : Tree) (ts : Trees) → allWellMade names (more t ts) ≡ true → (wellMade names t ≡ true) × (allWellMade names ts ≡ true)
+  unfolding wellMade
+  well-more t ts e = and-true (wellMade names t) (allWellMade names ts) e
+
+  right : (x y : Bool) → (not x || y) ≡ true → x ≡ true → y ≡ true
+  right true y e g = e
+  right false y e g = absurd (let z : _≡_ {A = ℕ} 0 1 = cc in omega arith)
+
+  or-left : (x y : Bool) → x ≡ true → (x || y) ≡ true
+  or-left true y e = refl
+  or-left false y e = cc
+
+  abbrev parts : NodeRecord → Bool
+  parts n = leb (n .kind) 30 && (not (isNamed (n .kind)) || ltb (n .label) (length names))
+
+  -- a name is one of the file's
+  pub named-in : (n : Node) (k : ℕ) → goodNode names (recordOf n k) ≡ true → eqb (n .kind) 4 ≡ true → ltb (n .label) (length names) ≡ true
+  unfolding goodNode goodNodeOf recordOf
+  named-in n k e g =
+      let a = and-true _ (goodChildren (recordOf n k)) e .0 in
+      let b = and-true _ (not (marked (n .flags)) || mayMark (flagsOf names (n .label)) (recordOf n k)) a .0 in
+      let c = and-true _ (goodFlags (recordOf n k)) b .0 in
+      let d = and-true _ (not (eqb (n .position) noPosition)) c .0 in
+      let f = and-true (parts (recordOf n k)) (eqb (recordOf n k .zero) 0) d .0 in
+      right (isNamed (n .kind)) (ltb (n .label) (length names)) (and-true (leb (n .kind) 30) _ f .1) (or-left (eqb (n .kind) 4) _ g)
