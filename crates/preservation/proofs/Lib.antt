@@ -11,3 +11,5 @@ pub mod WellMade
 pub mod Open
 pub mod At
 pub mod Bare
+pub mod Placing
+pub mod Children

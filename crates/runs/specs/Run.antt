@@ -39,9 +39,9 @@ isRead value = true
 isRead target = false
 isRead deleted = true
 
--- What a node has in hand of its first child beside its value. A call: that its callee is bare `eval`. An assignment: its
--- target name or opaque target. "A member called, tagged, deleted or assigned to": its object and key, which a chain over
--- it hands on.
+-- What a node has in hand of its first child beside its value. A call: that its callee is bare `eval` (ECMA-262 13.3.6.1).
+-- An assignment: its target name or opaque target. "A member called, tagged, deleted or assigned to": its object and key,
+-- which a chain over it hands on (13.2.9.2: parentheses keep the reference).
 unfoldable pub kept : {Value : Type 0} → Form → Node → Beside Value → Beside Value
 kept f n nothing = nothing
 kept f n bareEval = cond (is 14 n) bareEval nothing
