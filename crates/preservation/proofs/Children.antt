@@ -194,12 +194,12 @@ module _ {Value Rest : Type 0} (σ : Setting Value Rest) where
       ∙ bind-same (run names m t (firstRole f n role) s) _ _ (λ x s′. goes-same m f n role (λ w s″. runOthers names m ts w s″) (λ w s″. runOthers names m ts′ w s″) g x s′)
 
   -- a reason for each child is one for all, where there is no choice
-  pub straight-why : (f : Form) (n : Node) (t : Tree) (ts : Trees) {s : S} → choiceOf f ≡ never → Why s (run names m t (firstRole f n value)) → Why s (runOthers names m ts all) → Why s (runChildren names m (more t ts) f n value)
+  pub straight-why : (f : Form) (n : Node) (role : Role) (t : Tree) (ts : Trees) {s : S} → choiceOf f ≡ never → Why s (run names m t (firstRole f n role)) → Why s (runOthers names m ts all) → Why s (runChildren names m (more t ts) f n role)
   unfolding run
-  straight-why f n t ts {s = s} e y z = subst (λ c. Why s c) (fun-ext (λ s. bind-same _ _ _ (λ x s′. sym (straight-goes f n value _ x s′ e)))) (two-reasons σ (λ x hs. hand-of f n x ∷ hs) y z)
+  straight-why f n role t ts {s = s} e y z = subst (λ c. Why s c) (fun-ext (λ s. bind-same _ _ _ (λ x s′. sym (straight-goes f n role _ x s′ e)))) (two-reasons σ (λ x hs. hand-of f n x ∷ hs) y z)
 
   straight-value : (f : Form) (n : Node) (t : Tree) (ts : Trees) {s : S} → First-value f n → choiceOf f ≡ never → Why s (go t) → Why s (runOthers names m ts all) → Why s (runChildren names m (more t ts) f n value)
-  straight-value f n t ts {s = s} e g y z = straight-why f n t ts g (subst (λ ρ. Why s (run names m t ρ)) (sym e) y) z
+  straight-value f n t ts {s = s} e g y z = straight-why f n value t ts g (subst (λ ρ. Why s (run names m t ρ)) (sym e) y) z
 
   goes-framed : (f : Form) (n : Node) (ts : Trees) → Other n → allReads v ts ≡ 0 → allTargets v ts ≡ 0 → (x : Given Value) → Off v (x .beside) → Framed σ (goesOn m f n value (λ w s′. runOthers names m ts w s′) x)
   goes-framed f n ts (e, i) h g x o a s = goesOn-on names m v (Put v a) (put-blind blind a) f n value _ x s e i o (λ w s′. free-others σ ts w h g a s′)

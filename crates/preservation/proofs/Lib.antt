@@ -13,3 +13,8 @@ pub mod At
 pub mod Bare
 pub mod Placing
 pub mod Children
+pub mod Nodes
+pub mod Aims
+pub mod Sound
+pub mod OneFold
+pub mod Turned

@@ -76,8 +76,11 @@ module _ {Value Rest : Type 0} (σ : Setting Value Rest) where
   pub by-literal : {A : Type 0} {s : S} (c : S → O A) → Framed σ c → isLiteralValue true r ≡ true → Why s c
   by-literal c h e = let (x, g) = literal-is r e in let (q, k) = constant-calm σ x g in reading q h (λ u. ends-any (c u) (λ x s′. k _ _) (λ s′. k _ _))
 
+  pub by-calm : {s : S} (t : Tree) (role : Role) → reads v t ≡ 0 → targets v t ≡ 0 → Calm σ → mayHaveSideEffects t ≡ false → Why s (run names m t role)
+  by-calm t role h g q e = reading q (free-frame t h g role) (λ u. ends-map (still names m u t e role) (λ x s′ p. ap (λ (s : S). worth σ (s .store)) p) (λ s′ p. ap (λ (s : S). worth σ (s .store)) p) absurd)
+
   pub by-still : {s : S} (t : Tree) (role : Role) → reads v t ≡ 0 → targets v t ≡ 0 → mayHaveSideEffects r ≡ false → mayHaveSideEffects t ≡ false → Why s (run names m t role)
-  by-still t role h g e e′ = reading (calm e) (free-frame t h g role) (λ u. ends-map (still names m u t e′ role) (λ x s′ p. ap (λ (s : S). worth σ (s .store)) p) (λ s′ p. ap (λ (s : S). worth σ (s .store)) p) absurd)
+  by-still t role h g e e′ = by-calm t role h g (calm e) e′
 
   pub by-reorder : {s : S} (t : Tree) (role : Role) → reads v t ≡ 0 → targets v t ≡ 0 → canReorder r t ≡ true → Why s (run names m t role)
   unfolding canReorder

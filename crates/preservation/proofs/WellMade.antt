@@ -6,7 +6,7 @@ use mathlib.Core.List.{List, [], _∷_}
 use mathlib.Core.Path.{_≡_, refl, sym, ap, _∙_}
 use lib.ListN.{length, getD}
 use lib.Dec.{eqb, ltb, leb}
-use borrow.Author.Tests.{eqb-true}
+use borrow.Author.Tests.{eqb-true, leb-true}
 use Rattle.records.specs.Flags.{marked}
 use Rattle.records.specs.Limits.{noPosition}
 use Rattle.records.specs.Script.{flagsOf}
@@ -44,6 +44,10 @@ module _ (names : List NameFacts) where
   abbrev parts : NodeRecord → Bool
   parts n = leb (n .kind) 30 && (not (isNamed (n .kind)) || ltb (n .label) (length names))
 
+  -- all but the last of what is asked of a node
+  abbrev before : NodeRecord → Bool
+  before n = parts n && eqb (n .zero) 0 && not (eqb (n .position) noPosition) && goodFlags n && (not (marked (n .flags)) || mayMark (flagsOf names (n .label)) n)
+
   -- a name is one of the file's
   pub named-in : (n : Node) (k : ℕ) → goodNode names (recordOf n k) ≡ true → eqb (n .kind) 4 ≡ true → ltb (n .label) (length names) ≡ true
   unfolding goodNode goodNodeOf recordOf
@@ -54,3 +58,31 @@ module _ (names : List NameFacts) where
       let d = and-true _ (not (eqb (n .position) noPosition)) c .0 in
       let f = and-true (parts (recordOf n k)) (eqb (recordOf n k .zero) 0) d .0 in
       right (isNamed (n .kind)) (ltb (n .label) (length names)) (and-true (leb (n .kind) 30) _ f .1) (or-left (eqb (n .kind) 4) _ g)
+
+  -- a member has its object, and a computed one its key too
+  children-by : (k x y c : ℕ) (b : Bool) → (leb x k && leb k y && b) ≡ true → x ≡ c → y ≡ c → k ≡ c
+  children-by k x y c b e g h =
+      let a = and-true (leb x k && leb k y) b e .0 in
+      let (p, q) = and-true (leb x k) (leb k y) a in
+      let p′ = leb-true x k p in
+      let q′ = leb-true k y q in
+      omega arith
+
+  good-children : (n : Node) (k : ℕ) → goodNode names (recordOf n k) ≡ true → goodChildren (recordOf n k) ≡ true
+  unfolding goodNode goodNodeOf
+  good-children n k e = and-true (before (recordOf n k)) (goodChildren (recordOf n k)) e .1
+
+  count-by : (n : Node) (k c : ℕ) → goodNode names (recordOf n k) ≡ true → getD fewest (n .kind) 0 ≡ c → getD most (n .kind) 0 ≡ c → k ≡ c
+  unfolding goodChildren recordOf
+  count-by n k c e g h = children-by k (getD fewest (n .kind) 0) (getD most (n .kind) 0) c _ (good-children n k e) g h
+
+  pub one-child : (n : Node) (k : ℕ) → goodNode names (recordOf n k) ≡ true → (eqb (n .kind) 11 || eqb (n .kind) 10) ≡ true → k ≡ 1
+  unfolding fewest most
+  one-child n k e =
+      by-or (eqb (n .kind) 11) (eqb (n .kind) 10)
+      (λ g. count-by n k 1 e (rw (eqb-true (n .kind) 11 g)) (rw (eqb-true (n .kind) 11 g)))
+      (λ g. count-by n k 1 e (rw (eqb-true (n .kind) 10 g)) (rw (eqb-true (n .kind) 10 g)))
+
+  pub two-children : (n : Node) (k : ℕ) → goodNode names (recordOf n k) ≡ true → eqb (n .kind) 12 ≡ true → k ≡ 2
+  unfolding fewest most
+  two-children n k e g = count-by n k 2 e (rw (eqb-true (n .kind) 12 g)) (rw (eqb-true (n .kind) 12 g))
