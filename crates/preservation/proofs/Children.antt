@@ -21,6 +21,7 @@ use Rattle.preservation.proofs.Uses.{reads, allReads, targets, allTarge
 use Rattle.preservation.proofs.Frame.{moved, shifted, shifted-bind, gave-on, goesOn-on}
 use Rattle.preservation.proofs.Setting.{Setting}
 use Rattle.preservation.proofs.Passing.{Put, put-blind, Only, bind-same, first, drop, Framed, Calm, Reason, calm-first, calm-drop, drop-only, drop-bind, first-bind, first-same, first-only, two-reasons}
+use Rattle.preservation.proofs.Same.{hand-of, children-same}
 use Rattle.preservation.proofs.Open.{free-others}
 use Rattle.preservation.proofs.Placing.{over, forks, isNothing, Here, fairs-here, fair-head, fair-tail, tidy, tidy-value, go-off, place-first, place-rest}
 use Rattle.preservation.proofs.Placing as P
@@ -43,25 +44,6 @@ lets optionally all = true
 lets optionally skipped = false
 lets optionally second = false
 lets optionally third = false
-
--- what a node has in hand of its first child
-abbrev pub hand-of : {Value : Type 0} → Form → Node → Given Value → Given Value
-hand-of f n x = record { value = x .value; beside = kept f n (x .beside) }
-
-module _ {Value Rest : Type 0} where
-  chosen-same : (c : Choice) (b : Bool) (cs cs′ : Turn → State Value Rest → Out Value Rest (List (Given Value))) (s : State Value Rest) → ((w : Turn) → cs′ w s ≡ cs w s) → chosen c b cs′ s ≡ chosen c b cs s
-  unfolding chosen
-  chosen-same never b cs cs′ s h = h all
-  chosen-same logical true cs cs′ s h = h all
-  chosen-same logical false cs cs′ s h = h skipped
-  chosen-same conditional true cs cs′ s h = h second
-  chosen-same conditional false cs cs′ s h = h third
-  chosen-same optionally true cs cs′ s h = h all
-  chosen-same optionally false cs cs′ s h = refl
-
-  pub goes-same : (m : Meaning Value Rest) (f : Form) (n : Node) (role : Role) (cs cs′ : Turn → State Value Rest → Out Value Rest (List (Given Value))) → ((w : Turn) (s : State Value Rest) → cs′ w s ≡ cs w s) → (x : Given Value) (s : State Value Rest) → goesOn m f n role cs′ x s ≡ goesOn m f n role cs x s
-  unfolding goesOn
-  goes-same m f n role cs cs′ h x s = ap (λ o. bind o (λ hs s′. gave (hand-of f n x ∷ hs) s′)) (chosen-same (choiceOf f) _ cs cs′ s (λ w. h w s))
 
 module _ {Value Rest : Type 0} (σ : Setting Value Rest) where
   open Setting σ using (file, m, v, r, blind)
@@ -187,12 +169,6 @@ module _ {Value Rest : Type 0} (σ : Setting Value Rest) where
   unfolding run
   by-value t ts f n s e = ap (λ ρ. bind (run names m t ρ s) (goesOn m f n value (λ w s′. runOthers names m ts w s′))) e
 
-  children-same : (t t′ : Tree) (ts ts′ : Trees) (f : Form) (n : Node) → ((role : Role) (s : S) → run names m t′ role s ≡ run names m t role s) → ((w : Turn) (s : S) → runOthers names m ts′ w s ≡ runOthers names m ts w s) → (role : Role) (s : S) → runChildren names m (more t′ ts′) f n role s ≡ runChildren names m (more t ts) f n role s
-  unfolding run
-  children-same t t′ ts ts′ f n h g role s =
-      ap (λ o. bind o (goesOn m f n role (λ w s′. runOthers names m ts′ w s′))) (h (firstRole f n role) s)
-      ∙ bind-same (run names m t (firstRole f n role) s) _ _ (λ x s′. goes-same m f n role (λ w s″. runOthers names m ts w s″) (λ w s″. runOthers names m ts′ w s″) g x s′)
-
   -- a reason for each child is one for all, where there is no choice
   pub straight-why : (f : Form) (n : Node) (role : Role) (t : Tree) (ts : Trees) {s : S} → choiceOf f ≡ never → Why s (run names m t (firstRole f n role)) → Why s (runOthers names m ts all) → Why s (runChildren names m (more t ts) f n role)
   unfolding run
@@ -221,17 +197,17 @@ module _ {Value Rest : Type 0} (σ : Setting Value Rest) where
       → ((ts′ : Trees) → b ≡ replaced ts′ → Turns p f) → (p ≡ every → next p ≡ every) → P.Good σ t a → P.Goods σ (next p) ts b → Parts p f n (more t ts) (inOrder t ts a b)
   unfolding inOrder usesIn
   part-order p f n t ts (replaced t′) b q o c k l e i j y h g = (q, omega (arith, h .0), λ s d u. into-first t t′ ts f n s o e k (omega (arith, h .0)) l (i t′ refl) (h .1 s (fair-head σ t ts s u)))
-  part-order p f n t ts (stopped t′) b q o c k l e i j y h g = (q, children-same t t′ ts ts f n h (λ w s. refl))
+  part-order p f n t ts (stopped t′) b q o c k l e i j y h g = (q, children-same names m t t′ ts ts f n h (λ w s. refl))
   part-order p f n t ts passed (replaced ts′) q o c k l e i j y h g =
       (q, omega (arith, g .1), λ s d u. into-rest p t ts ts′ f n s o k (j ts′ refl) (subst (λ ρ. Why s (run names m t ρ)) (sym e) (h (omega (arith, g .1)) s)) (fair-tail σ t ts s u) (g .2))
-  part-order p f n t ts passed (stopped ts′) q o c k l e i j y h g = (q, children-same t t ts ts′ f n (λ role s. refl) (g .1))
+  part-order p f n t ts passed (stopped ts′) q o c k l e i j y h g = (q, children-same names m t t ts ts′ f n (λ role s. refl) (g .1))
   part-order p f n t ts passed passed q o c k l e i j y h g = λ z w d s. straight-value f n t ts e w (h (omega arith) s) (g (y z) (omega arith) s)
 
   part-behind : (f : Form) (n : Node) (t : Tree) (ts : Trees) (b : Answer Trees) → Other n → reads v t + allReads v ts ≤ 1 → targets v t ≡ 0 → Links behind f n t ts → P.Goods σ every ts b → Parts behind f n (more t ts) (inOrder t ts passed b)
   unfolding inOrder usesIn isNothing next
   part-behind f n t ts (replaced ts′) o c k l g =
       (refl, omega (arith, g .1), λ s d u. into-rest behind t ts ts′ f n s o k (l .1) (l .0 s d (g .1) (omega (arith, g .1))) (fair-tail σ t ts s u) (g .2))
-  part-behind f n t ts (stopped ts′) o c k l g = (refl, children-same t t ts ts′ f n (λ role s. refl) (g .1))
+  part-behind f n t ts (stopped ts′) o c k l g = (refl, children-same names m t t ts ts′ f n (λ role s. refl) (g .1))
   part-behind f n t ts passed o c k l g = λ e. absurd (let z : _≡_ {A = ℕ} 0 1 = cc in omega arith)
 
   part-tag : (f : Form) (n : Node) (t : Tree) (ts : Trees) (a : Answer Tree) (b : Answer Trees) → Other n → reads v t + allReads v ts ≤ 1 → targets v t ≡ 0 → allTargets v ts ≡ 0 → Links tag f n t ts → P.Good σ t a → P.Goods σ every ts b → Parts tag f n (more t ts) (inOrder t ts (asTag a) b)

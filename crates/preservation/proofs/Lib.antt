@@ -7,6 +7,7 @@ pub mod Frame
 pub mod Kept
 pub mod Setting
 pub mod Passing
+pub mod Same
 pub mod WellMade
 pub mod Open
 pub mod At
@@ -18,3 +19,17 @@ pub mod Aims
 pub mod Sound
 pub mod OneFold
 pub mod Turned
+pub mod Stopped
+pub mod Counts
+pub mod Fits
+pub mod Remade
+pub mod Program
+pub mod Site
+pub mod Places
+pub mod Moves
+pub mod Totals
+pub mod Fine
+pub mod FineKept
+pub mod FoldKept
+pub mod Unseen
+pub mod Whole

@@ -30,6 +30,7 @@ use Rattle.preservation.proofs.Frame.{moved, shifted, gave-on, caught-o
 use Rattle.preservation.proofs.Kept.{whole}
 use Rattle.preservation.proofs.Setting.{Setting}
 use Rattle.preservation.proofs.Passing.{Put, put-blind, Only, bind-assoc, bind-same, first, drop, Framed, Reason, same-bind, drop-only, drop-bind, drop-shift, first-bind, first-same, first-only}
+use Rattle.preservation.proofs.Same.{node-same}
 use Rattle.preservation.proofs.At.{run-at}
 use Rattle.preservation.proofs.Bare.{Bare, bare-run}
 use Rattle.preservation.proofs.Placing.{over, isNothing, tidy}
@@ -197,10 +198,6 @@ module _ {Value Rest : Type 0} (σ : Setting Value Rest) where
   unfolding over
   drop-over g o o′ e = drop-bind σ o o′ _ (λ x a s. gave-on _ s) e
 
-  run-same : (f : Form) (n : Node) (role : Role) (cs cs′ : S → O (List (Given Value))) → ((s : S) → cs′ s ≡ cs s) → (s : S) → runNode names m f n role cs′ s ≡ runNode names m f n role cs s
-  unfolding runNode
-  run-same f n role cs cs′ h s = rw (h s)
-
   not-childless : (b : Bool) (p : Plan) → isNothing p ≡ false → (b ≡ true → isNothing p ≡ true) → b ≡ false
   not-childless true p e h = clash (isNothing p) e (h refl)
   not-childless false p e h = refl
@@ -222,6 +219,6 @@ module _ {Value Rest : Type 0} (σ : Setting Value Rest) where
         ∙ run-place (formOf (shape n)) (cleared n) _ _ s (not-childless _ p (g .0) l) (kinds-shape n) o (hand-only ts (formOf (shape n)) (cleared n) k) (g .2 s (target-of n ts s u) (λ x s′ e. u x s′ e .1))
         ∙ ap D (sym (run-again n ts′ value s))),
   )
-  node-good n ts p pass (stopped ts′) o k g l h = λ role s. run-again n ts′ role s ∙ run-same (formOf (shape n)) (cleared n) role _ _ (λ s. g .1 role s) s ∙ sym (run-as n ts role s)
+  node-good n ts p pass (stopped ts′) o k g l h = λ role s. run-again n ts′ role s ∙ node-same names m (formOf (shape n)) (cleared n) role _ _ (λ s. g .1 role s) s ∙ sym (run-as n ts role s)
   node-good n ts p true passed o k g l h = λ z s. h refl z g s
   node-good n ts p false passed o k g l h = λ role s. refl

@@ -23,6 +23,7 @@ use Rattle.preservation.proofs.Uses.{reads, allReads, targets, allTarge
 use Rattle.preservation.proofs.Frame.{moved, shifted, shifted-bind, gave-on, inTurn-on}
 use Rattle.preservation.proofs.Setting.{Setting}
 use Rattle.preservation.proofs.Passing.{Put, Only, bind-same, first, drop, Framed, Calm, Reason, reading, steady, passing, calm-drop, drop-only, drop-bind, first-bind, first-only, two-reasons}
+use Rattle.preservation.proofs.Same.{inTurn-same, others-same}
 use Rattle.preservation.proofs.Open.{free-frame, free-others}
 
 module _ {Value Rest : Type 0} where
@@ -237,23 +238,15 @@ module _ {Value Rest : Type 0} (σ : Setting Value Rest) where
       place-rest (go t) _ _ s (go-off t value k s) y (λ x u o e. ap D (first-bind σ (runOthers names m ts (then w)) _ u) ∙ drop-bind σ _ _ _ (λ hs a s′. gave-on _ s′) (h u e))
   at-rest t ts ts′ w false s k y h = h s (same refl)
 
-  pub inTurn-same : (c c′ : S → O (Given Value)) (cs cs′ : S → O (List (Given Value))) → ((s : S) → c′ s ≡ c s) → ((s : S) → cs′ s ≡ cs s) → (s : S) → inTurn c′ cs′ s ≡ inTurn c cs s
-  unfolding inTurn
-  inTurn-same c c′ cs cs′ h g s = rw (h s) (bind-same (c s) _ _ (λ x s′. ap (λ o. bind o (λ hs s″. gave (only (x .value) ∷ hs) s″)) (g s′)))
-
-  others-same : (t t′ : Tree) (ts ts′ : Trees) (w : Turn) → ((s : S) → go t′ s ≡ go t s) → ((s : S) → runOthers names m ts′ (then w) s ≡ runOthers names m ts (then w) s) → (s : S) → runOthers names m (more t′ ts′) w s ≡ runOthers names m (more t ts) w s
-  unfolding run
-  others-same t t′ ts ts′ w h g s = ap₂ (cond (takes w)) (inTurn-same _ _ _ _ h g s) (g s)
-
   -- the answers of a row
   order-good : (p : Plan) (t : Tree) (ts : Trees) (a : Answer Tree) (b : Answer Trees) → isNothing p ≡ false → reads v t + allReads v ts ≤ 1 → targets v t ≡ 0 → allTargets v ts ≡ 0 → ((w : Turn) → Meant p w → Meant (next p) (then w)) → (p ≡ every → next p ≡ every)
       → Good t a → Goods (next p) ts b → Goods p (more t ts) (inOrder t ts a b)
   unfolding inOrder run usesIn
   order-good p t ts (replaced t′) b n c k l i j h g = (n, omega (arith, h .0), λ w q z s u. at-first t t′ ts w (takes w) s refl k (omega (arith, h .0)) l (h .1 s (fair-head t ts s u)) q)
-  order-good p t ts (stopped t′) b n c k l i j h g = (n, λ w s. others-same t t′ ts ts w (λ s. h value s) (λ s. refl) s)
+  order-good p t ts (stopped t′) b n c k l i j h g = (n, λ w s. others-same names m t t′ ts ts w (λ s. h value s) (λ s. refl) s)
   order-good p t ts passed (replaced ts′) n c k l i j h g =
       (n, omega (arith, g .1), λ w q z s u. at-rest t ts ts′ w (takes w) s k (h (omega (arith, g .1)) s) (λ u′ e. g .2 (then w) (then-all w q) (i w z) u′ (fairs-here ts e (fair-tail t ts s u))))
-  order-good p t ts passed (stopped ts′) n c k l i j h g = (n, λ w s. others-same t t ts ts′ w (λ s. refl) (λ s. g .1 (then w) s) s)
+  order-good p t ts passed (stopped ts′) n c k l i j h g = (n, λ w s. others-same names m t t ts ts′ w (λ s. refl) (λ s. g .1 (then w) s) s)
   order-good p t ts passed passed n c k l i j h g = λ e z s. unfold inTurn takes then in two-reasons σ (λ x hs. only (x .value) ∷ hs) (h (omega arith) s) (g (j e) (omega arith) s)
 
   none-runs : (ts : Trees) (s : S) → runOthers names m ts skipped s ≡ gave [] s
@@ -288,25 +281,25 @@ module _ {Value Rest : Type 0} (σ : Setting Value Rest) where
   unfolding inBranches inOrder run usesIn isNothing
   branches-good t ts (replaced t′) b c k l h g = (refl, omega (arith, h .0), λ w q z s u. at-first t t′ ts w (takes w) s refl k (omega (arith, h .0)) l (h .1 s (fair-head t ts s u)) q)
   branches-good t ts (stopped t′) (replaced ts′) c k l h g = (refl, omega (arith, g .1), λ w q z s u. at-fork t t′ ts ts′ w s (omega (arith, g .1)) k (λ s. h value s) (g .2 all all-calm tt s (fair-tail t ts s u)) q z)
-  branches-good t ts (stopped t′) (stopped ts′) c k l h g = (refl, λ w s. others-same t t′ ts ts′ w (λ s. h value s) (λ s. g .1 (then w) s) s)
-  branches-good t ts (stopped t′) passed c k l h g = (refl, λ w s. others-same t t′ ts ts w (λ s. h value s) (λ s. refl) s)
+  branches-good t ts (stopped t′) (stopped ts′) c k l h g = (refl, λ w s. others-same names m t t′ ts ts′ w (λ s. h value s) (λ s. g .1 (then w) s) s)
+  branches-good t ts (stopped t′) passed c k l h g = (refl, λ w s. others-same names m t t′ ts ts w (λ s. h value s) (λ s. refl) s)
   branches-good t ts passed (replaced ts′) c k l h g = (refl, omega (arith, g .1), λ w q z s u. at-fork t t ts ts′ w s (omega (arith, g .1)) k (λ s. refl) (g .2 all all-calm tt s (fair-tail t ts s u)) q z)
-  branches-good t ts passed (stopped ts′) c k l h g = (refl, λ w s. others-same t t ts ts′ w (λ s. refl) (λ s. g .1 (then w) s) s)
+  branches-good t ts passed (stopped ts′) c k l h g = (refl, λ w s. others-same names m t t ts ts′ w (λ s. refl) (λ s. g .1 (then w) s) s)
   branches-good t ts passed passed c k l h g = λ e. absurd (let z : _≡_ {A = ℕ} 0 1 = cc in omega arith)
 
   -- a plan that is of a node's children only, of which the others are searched: an assignment's, a tag's
   behind-good : (t : Tree) (ts : Trees) (b : Answer Trees) → Goods every ts b → Goods behind (more t ts) (inOrder t ts passed b)
   unfolding inOrder usesIn isNothing
   behind-good t ts (replaced ts′) g = (refl, omega (arith, g .1), λ w q z. absurd z)
-  behind-good t ts (stopped ts′) g = (refl, λ w s. others-same t t ts ts′ w (λ s. refl) (λ s. g .1 (then w) s) s)
+  behind-good t ts (stopped ts′) g = (refl, λ w s. others-same names m t t ts ts′ w (λ s. refl) (λ s. g .1 (then w) s) s)
   behind-good t ts passed g = λ e. absurd (let z : _≡_ {A = ℕ} 0 1 = cc in omega arith)
 
   tag-good : (t : Tree) (ts : Trees) (a : Answer Tree) (b : Answer Trees) → Good t a → Goods every ts b → Goods tag (more t ts) (inOrder t ts (asTag a) b)
   unfolding inOrder asTag usesIn isNothing
   tag-good t ts (replaced t′) b h g = (refl, omega (arith, h .0), λ w q z. absurd z)
-  tag-good t ts (stopped t′) b h g = (refl, λ w s. others-same t t′ ts ts w (λ s. h value s) (λ s. refl) s)
+  tag-good t ts (stopped t′) b h g = (refl, λ w s. others-same names m t t′ ts ts w (λ s. h value s) (λ s. refl) s)
   tag-good t ts passed (replaced ts′) h g = (refl, omega (arith, g .1), λ w q z. absurd z)
-  tag-good t ts passed (stopped ts′) h g = (refl, λ w s. others-same t t ts ts′ w (λ s. refl) (λ s. g .1 (then w) s) s)
+  tag-good t ts passed (stopped ts′) h g = (refl, λ w s. others-same names m t t ts ts′ w (λ s. refl) (λ s. g .1 (then w) s) s)
   tag-good t ts passed passed h g = λ e. absurd (let z : _≡_ {A = ℕ} 0 1 = cc in omega arith)
 
   pub plan-good : (p : Plan) (t : Tree) (ts : Trees) (a : Answer Tree) (b : Answer Trees) → reads v t + allReads v ts ≤ 1 → targets v t ≡ 0 → allTargets v ts ≡ 0 → Good t a → Goods (next p) ts b → Goods p (more t ts) (byPlan p t ts a b)

@@ -75,14 +75,14 @@ kinds n = told (of-form n)
     told (of e) = e
 
 -- A shorthand.
-bit-same : (w f g : ℕ) → f / w % 2 ≡ g / w % 2 → bit w f ≡ bit w g
+pub bit-same : (w f g : ℕ) → f / w % 2 ≡ g / w % 2 → bit w f ≡ bit w g
 bit-same w f g e = ap (λ z. eqb z 1) e
 
 -- the flags of a property whose shorthand is cleared
 abbrev pub clearedFlags : ℕ → ℕ
 clearedFlags f = cond (proto f) (f + 16) (f - 16)
 
-marked-by : (f : ℕ) (p : Bool) → shorthand f ≡ true → marked (cond p (f + 16) (f - 16)) ≡ marked f
+pub marked-by : (f : ℕ) (p : Bool) → shorthand f ≡ true → marked (cond p (f + 16) (f - 16)) ≡ marked f
 marked-by f true e = bit-same 1 (f + 16) f (omega arith)
 marked-by f false e = let h = eqb-true (f / 16 % 2) 1 e in bit-same 1 (f - 16) f (omega arith)
 
@@ -103,7 +103,7 @@ halved f g e = omega arith
 odd-next : (x y : ℕ) → x % 2 ≡ 1 → y ≡ x + 1 → y % 2 ≡ 1 → ⊥
 odd-next x y h e g = omega arith
 
-zero-bit : (x : ℕ) → (x % 2 ≡ 1 → ⊥) → x % 2 ≡ 0
+pub zero-bit : (x : ℕ) → (x % 2 ≡ 1 → ⊥) → x % 2 ≡ 0
 zero-bit x h = omega (arith, h)
 
 two-by : (f : ℕ) (p c : Bool) → shorthand f ≡ true → proto f ≡ p → computed f ≡ c → twoChildren (cond p (f + 16) (f - 16)) ≡ (c && not p)
@@ -120,7 +120,7 @@ two-by f false c s p e =
     let y : proto (f - 16) ≡ proto f = bit-same 64 (f - 16) f (ap (λ x. x % 2) (halved f (f - 16) h)) in
     rw (z, y, e, p)
 
-short-by : (f : ℕ) (p : Bool) → shorthand f ≡ true → shorthand (cond p (f + 16) (f - 16)) ≡ false
+pub short-by : (f : ℕ) (p : Bool) → shorthand f ≡ true → shorthand (cond p (f + 16) (f - 16)) ≡ false
 short-by f true e = let h = eqb-true (f / 16 % 2) 1 e in ne-eqb ((f + 16) / 16 % 2) 1 (omega arith)
 short-by f false e = let h = eqb-true (f / 16 % 2) 1 e in ne-eqb ((f - 16) / 16 % 2) 1 (omega arith)
 
@@ -128,6 +128,15 @@ short-by f false e = let h = eqb-true (f / 16 % 2) 1 e in ne-eqb ((f - 16) / 16 
 again : (b i : Bool) (f x : ℕ) → (i && shorthand f) ≡ b → cond (i && shorthand (cond b (clearedFlags f) f)) x (cond b (clearedFlags f) f) ≡ cond b (clearedFlags f) f
 again true i f x e = let z : (i && shorthand (clearedFlags f)) ≡ false = and-off i _ (short-by f (proto f) (and-true i _ e .1)) in rw z
 again false i f x e = rw e
+
+-- a cleared node is no shorthand
+unshort-by : (b i : Bool) (f : ℕ) → (i && shorthand f) ≡ b → (i && shorthand (cond b (clearedFlags f) f)) ≡ false
+unshort-by true i f e = and-off i _ (short-by f (proto f) (and-true i _ e .1))
+unshort-by false i f e = e
+
+pub unshort : (n : Node) → (is 26 n && shorthand (cleared n .flags)) ≡ false
+unfolding cleared
+unshort n = unshort-by (is 26 n && shorthand (n .flags)) (is 26 n) (n .flags) refl
 
 pub cleared-once : (n : Node) → cleared (cleared n) ≡ cleared n
 unfolding cleared
@@ -172,7 +181,7 @@ formOf stopping = stepping never
 formOf (assigning c) = assignment c
 formOf (steps w) = stepping (choosing w)
 
-two-at : (b : Bool) (f : ℕ) → shorthand f ≡ b → twoChildren (cond b (clearedFlags f) f) ≡ twoChildren f
+pub two-at : (b : Bool) (f : ℕ) → shorthand f ≡ b → twoChildren (cond b (clearedFlags f) f) ≡ twoChildren f
 two-at true f e = two-by f (proto f) (computed f) e refl refl
 two-at false f e = refl
 

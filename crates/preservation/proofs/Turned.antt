@@ -15,10 +15,10 @@ use Rattle.walk.specs.Substitute.{Answer, replaced, stopped, passed, Plan, all,
 -- the number says how often r was placed
 mutual
   pub data Turned (v : ℕ) (r : Tree) : ℕ → Tree → Tree → Type 0 where
-    same : {k : ℕ} {t : Tree} → k ≡ 0 → Turned v r k t t
-    here : {k : ℕ} {n : Node} {ts : Trees} → k ≡ 1 → isSpecificId v n ≡ true → Turned v r k (node n ts) (at (n .position) r)
-    apart : {k : ℕ} {t t′ : Tree} → isSpecificId v (root t) ≡ true → Turned v r k t t′ → Turned v r k t (preserveIndirectAccess t′)
-    under : {k : ℕ} {n : Node} {ts ts′ : Trees} → AllTurned v r k ts ts′ → Turned v r k (node n ts) (node (cleared n) ts′)
+    same : {k : ℕ} {t u : Tree} → k ≡ 0 → u ≡ t → Turned v r k t u
+    here : {k : ℕ} {n : Node} {ts : Trees} {u : Tree} → k ≡ 1 → isSpecificId v n ≡ true → u ≡ at (n .position) r → Turned v r k (node n ts) u
+    apart : {k : ℕ} {t u : Tree} (t′ : Tree) → k ≡ 1 → isSpecificId v (root t) ≡ true → Turned v r k t t′ → u ≡ preserveIndirectAccess t′ → Turned v r k t u
+    under : {k : ℕ} {n : Node} {ts : Trees} {u : Tree} (ts′ : Trees) → AllTurned v r k ts ts′ → u ≡ node (cleared n) ts′ → Turned v r k (node n ts) u
 
   pub data AllTurned (v : ℕ) (r : Tree) : ℕ → Trees → Trees → Type 0 where
     no-more : {k : ℕ} → k ≡ 0 → AllTurned v r k none none
@@ -26,7 +26,7 @@ mutual
 
 pub all-same : {v : ℕ} {r : Tree} (ts : Trees) → AllTurned v r 0 ts ts
 all-same none = no-more refl
-all-same (more t ts) = both 0 0 refl (same refl) (all-same ts)
+all-same (more t ts) = both 0 0 refl (same refl refl) (all-same ts)
 
 module _ (ctx : Context) (v : ℕ) (r : Tree) where
   abbrev Made : Tree → Answer Tree → Type 0
@@ -43,8 +43,8 @@ module _ (ctx : Context) (v : ℕ) (r : Tree) where
   unfolding inOrder
   order-made t ts (replaced t′) b h g = both 1 0 refl h (all-same ts)
   order-made t ts (stopped t′) b h g = both 0 0 refl h (all-same ts)
-  order-made t ts passed (replaced ts′) h g = both 0 1 refl (same refl) g
-  order-made t ts passed (stopped ts′) h g = both 0 0 refl (same refl) g
+  order-made t ts passed (replaced ts′) h g = both 0 1 refl (same refl refl) g
+  order-made t ts passed (stopped ts′) h g = both 0 0 refl (same refl refl) g
   order-made t ts passed passed h g = tt
 
   branches-made : (t : Tree) (ts : Trees) (a : Answer Tree) (b : Answer Trees) → Made t a → AllMade ts b → AllMade (more t ts) (inBranches t ts a b)
@@ -57,7 +57,7 @@ module _ (ctx : Context) (v : ℕ) (r : Tree) where
 
   tag-made : (t : Tree) (a : Answer Tree) → isSpecificId v (root t) ≡ true → Made t a → Made t (asTag a)
   unfolding asTag
-  tag-made t (replaced t′) e h = apart e h
+  tag-made t (replaced t′) e h = apart t′ refl e h refl
   tag-made t (stopped t′) e h = h
   tag-made t passed e h = tt
 
@@ -129,13 +129,13 @@ module _ (ctx : Context) (v : ℕ) (r : Tree) where
 
   node-made : (n : Node) (ts : Trees) (p : Bool) (a : Answer Trees) → AllMade ts a → Made (node n ts) (ofNode n ts p a)
   unfolding ofNode
-  node-made n ts p (replaced ts′) g = under g
-  node-made n ts p (stopped ts′) g = under g
+  node-made n ts p (replaced ts′) g = under ts′ g refl
+  node-made n ts p (stopped ts′) g = under ts′ g refl
   node-made n ts true passed g = tt
-  node-made n ts false passed g = same refl
+  node-made n ts false passed g = same refl refl
 
   name-made : (n : Node) (ts : Trees) (b : Bool) (a : Answer Tree) → isSpecificId v n ≡ b → Made (node n ts) a → Made (node n ts) (cond b (replaced (at (n .position) r)) a)
-  name-made n ts true a e g = here refl e
+  name-made n ts true a e g = here refl e refl
   name-made n ts false a e g = g
 
   mutual

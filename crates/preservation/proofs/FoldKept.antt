@@ -1,0 +1,270 @@
+-- A fold made on the way: what it is given, that it keeps the run, and that the program behind it is as fine as the one before.
+use Prim.Native.Nat.{ℕ, _+_, _≤_}
+use native.Mathlib.Omega.{arith}
+use mathlib.Core.Bool.{Bool, true, false, cond, _&&_, _||_, not}
+use mathlib.Core.List.{List, [], _∷_, _++_}
+use mathlib.Core.Path.{_≡_, refl, sym, ap, _∙_, subst}
+use lib.Dec.{eqb}
+use borrow.Author.Tests.{eqb-true, eq-eqb, ne-eqb, eqb-false}
+use Rattle.records.specs.Flags.{recorded, isEval}
+use Rattle.records.specs.Limits.{noNumber}
+use Rattle.records.specs.Script.{flagsOf}
+use Rattle.records.specs.Tree.{Node, Tree, Trees}
+use Rattle.records.specs.Place.{root, isExpression, placed, loose}
+use Rattle.records.specs.Count.{nameRead, targetName, readsOf, targetsOf}
+use Rattle.records.specs.File.{one, DeclarationKind, Initializer, bare, given, Declarator, Statement, declaration, File, allTrees}
+use Rattle.records.specs.declared.layout.NameFacts.{NameFacts}
+use Rattle.walk.specs.Context.{contextOf}
+use Rattle.walk.specs.Substitute.{replaced, substituteInExpression}
+use Rattle.statements.specs.Trace.{Fold}
+use Rattle.runs.specs.Store.{Store}
+use Rattle.runs.specs.Meaning.{Meaning}
+use Rattle.runs.specs.State.{State, Out, gave}
+use Rattle.runs.specs.Run.{resolved}
+use Rattle.runs.specs.Script.{isPattern, runStatements, begin}
+use Rattle.runs.specs.Settled.{factsOf, settled, thisBlocks}
+use Rattle.runs.specs.Shapes.{someIn, declared, evalWhole}
+use Rattle.runs.specs.Facts.{readsStand, writesStand, thisUnblocked, Facts, FoldKeeps}
+use Rattle.preservation.proofs.Words.{blinds}
+use Rattle.preservation.proofs.Tables.{and-true, by-or, clash}
+use Rattle.preservation.proofs.Uses.{reads, targets}
+use Rattle.preservation.proofs.WellMade.{wellMade}
+use Rattle.preservation.proofs.Setting.{Setting}
+use Rattle.preservation.proofs.Frame.{shifted}
+use Rattle.preservation.proofs.Passing.{Put, drop}
+use Rattle.preservation.proofs.Aims.{unblocked, ThisKnown}
+use Rattle.preservation.proofs.Sound.{Asked}
+use Rattle.preservation.proofs.Turned.{Turned, replaced-turned}
+use Rattle.preservation.proofs.Counts.{times, turned-reads, turned-targets, found}
+use Rattle.preservation.proofs.Fits.{placed-turned, loose-turned, expression-turned}
+use Rattle.preservation.proofs.Remade.{somewhere, well-turned, some-turned}
+use Rattle.preservation.proofs.Places.{Place, declaratorsAt, statementsAt, FreeBehind, fold-program}
+use Rattle.preservation.proofs.Moves.{FoldAt}
+use Rattle.preservation.proofs.Totals.{weighed, ofInitializer, totalOf, total, there, around, site-total, fold-total, there-tree, there-declared, trees, declarations, program-uses}
+use Rattle.preservation.proofs.FineKept.{one-none, fit-turned, eval-turned, eval-there, misfit-none}
+use Rattle.preservation.proofs.Fine.{fit, misfit, evals, unblockedTrees, Accepted, Fine, one-on, one-off, fit-parts, fit-whole, free-behind, declared-found, searched-name}
+
+other-way : (a b : ℕ) → eqb a b ≡ false → eqb b a ≡ false
+other-way a b e = ne-eqb b a (λ q. eqb-false a b e (sym q))
+
+one-of : (b : Bool) → b ≡ true → 1 ≤ one b
+one-of true e = omega arith
+one-of false e = clash false refl e
+
+one-in : (b : Bool) → 1 ≤ one b → b ≡ true
+one-in true h = refl
+one-in false h = absurd (omega arith)
+
+module _ (f : File) (P Q : List Statement) (φ : Fold) (move : FoldAt (contextOf f) P Q φ) (accepted : Accepted f) (fine : Fine f P) where
+  abbrev names : List NameFacts
+  names = f .names
+
+  abbrev v : ℕ
+  v = φ .name
+
+  abbrev r : Tree
+  r = φ .initializer
+
+  abbrev t : Tree
+  t = φ .into
+
+  abbrev t′ : Tree
+  t′ = move .tree
+
+  -- the sums of the program, with the parts that the fold touches
+  abbrev rest : (Declarator → ℕ) → (Tree → ℕ) → ℕ
+  rest wd we = total wd we (move .before) + totalOf wd we (move .earlier) + around wd we (move .place) (move .after)
+
+  sum-before : (wd : Declarator → ℕ) (we : Tree → ℕ) → total wd we P ≡ rest wd we + there wd we (move .place) t + wd (record { name = v; initializer = given r })
+  sum-before wd we = ap (total wd we) (move .from) ∙ fold-total wd we (move .before) (move .kind) (move .earlier) (record { name = v; initializer = given r }) (move .place) t (move .after)
+
+  sum-behind : (wd : Declarator → ℕ) (we : Tree → ℕ) → total wd we Q ≡ rest wd we + there wd we (move .place) t′
+  sum-behind wd we = ap (total wd we) (move .into) ∙ site-total wd we (move .before) (move .kind) (move .earlier) (move .place) t′ (move .after)
+
+  abbrev around-trees : (Tree → ℕ) → ℕ
+  around-trees w = rest (ofInitializer w) w
+
+  given-weight : (w : Tree → ℕ) → weighed w (given r) ≡ w r
+  unfolding weighed
+  given-weight w = refl
+
+  trees-before : (w : Tree → ℕ) → trees w P ≡ around-trees w + w t + w r
+  trees-before w = let a = sum-before (ofInitializer w) w in let b = there-tree w (move .place) t in let c = given-weight w in omega (arith, a, b, c)
+
+  trees-behind : (w : Tree → ℕ) → trees w Q ≡ around-trees w + w t′
+  trees-behind w = let a = sum-behind (ofInitializer w) w in let b = there-tree w (move .place) t′ in omega (arith, a, b)
+
+  -- what the search says
+  turned : Turned v r 1 t t′
+  turned = replaced-turned (contextOf f) v r t t′ (move .placed)
+
+  asked-name : (eqb v noNumber ≡ false) × (recorded (factsOf f v .flags) ≡ true) × (factsOf f v .reads ≤ 1) × (factsOf f v .writes ≤ 0)
+  asked-name = searched-name (contextOf f) (move .literalOnly) v r (move .searched)
+
+  declared-here : 1 ≤ declarations v P
+  declared-here =
+      let a = sum-before (λ d. one (eqb (d .name) v)) (λ t. 0) in
+      let b : _≡_ {A = ℕ} (one (eqb v v)) 1 = rw (eq-eqb v v refl) in
+      omega (arith, a, b)
+
+  pub declared-there : declared f (φ .name) ≡ true
+  declared-there = declared-found v (f .statements) (let a = fine .declared-in v in let b = declared-here in omega (arith, a, b))
+
+  known-name : (resolved names v ≡ true) × (isEval (flagsOf names v) ≡ false)
+  known-name = accepted .known v (asked-name .0) declared-there
+
+  within-counts : (readsOf v (allTrees (f .statements)) ≤ factsOf f v .reads) × (targetsOf v (allTrees (f .statements)) ≤ factsOf f v .writes)
+  within-counts = accepted .counts v (asked-name .1) (known-name .0)
+
+  read-once : 1 ≤ reads v t
+  read-once = found v r turned
+
+  -- the one read stands in t; v is no target anywhere
+  numbers : (reads v t ≡ 1) × (reads v r ≡ 0) × (around-trees (reads v) ≡ 0) × (readsOf v (allTrees (f .statements)) ≡ factsOf f v .reads) × (targets v t ≡ 0) × (targets v r ≡ 0) × (around-trees (targets v) ≡ 0) × (targetsOf v (allTrees (f .statements)) ≡ factsOf f v .writes)
+  numbers =
+      let (e, g, h, i) = asked-name in
+      let (b, c) = within-counts in
+      let x = read-once in
+      let k = fine .reads-in v (other-way v noNumber e) in
+      let l = fine .targets-in v (other-way v noNumber e) in
+      let a = trees-before (reads v) in
+      let d = trees-before (targets v) in
+      let p = program-uses nameRead v (f .statements) in
+      let q = program-uses (λ n kids. targetName n) v (f .statements) in
+      (omega (arith, h, b, x, k, a, p), omega (arith, h, b, x, k, a, p), omega (arith, h, b, x, k, a, p), omega (arith, h, b, x, k, a, p), omega (arith, i, c, l, d, q), omega (arith, i, c, l, d, q), omega (arith, i, c, l, d, q), omega (arith, i, c, l, d, q))
+
+  reads-stand : readsStand f v ≡ true
+  unfolding readsStand
+  reads-stand = rw (asked-name .1, eq-eqb (readsOf v (allTrees (f .statements))) (factsOf f v .reads) (numbers .3))
+
+  writes-stand : writesStand f v ≡ true
+  unfolding writesStand
+  writes-stand = rw (declared-there, asked-name .1, eq-eqb (targetsOf v (allTrees (f .statements))) (factsOf f v .writes) (numbers .7))
+
+  fits-here : (fit names t ≡ true) × (fit names r ≡ true)
+  fits-here = let a = fine .fits in let b = trees-before (misfit names) in (one-off (fit names t) (omega (arith, a, b)), one-off (fit names r) (omega (arith, a, b)))
+
+  eval-here : evalWhole names (given r) ≡ false
+  eval-here = let a = fine .no-evals in let b = sum-before (λ d. one (evalWhole names (d .initializer))) (λ t. 0) in one-on (evalWhole names (given r)) (omega (arith, a, b))
+
+  no-eval-here : (eqb (root r .kind) 4 && isEval (flagsOf names (root r .label))) ≡ false
+  no-eval-here = unfold evalWhole in eval-here
+
+  apart-here : (a : ℕ) → settled f a ≡ true → targets a r ≡ 0
+  apart-here a e =
+      let (x, y) = accepted .settled-unaimed a e in
+      let b = fine .targets-in a x in
+      let c = trees-before (targets a) in
+      let d = program-uses (λ n kids. targetName n) a (f .statements) in
+      omega (arith, y, b, c, d)
+
+  module _ {Value Rest : Type 0} {trace : List Fold} (m : Meaning Value Rest) (start : Store Value Rest) (facts : Facts f trace m start) where
+    abbrev setting : Setting Value Rest
+    setting = record {
+      file = f;
+      m = m;
+      v = v;
+      blind = blinds v facts reads-stand writes-stand;
+      there = known-name .0;
+      plain = known-name .1;
+      r = r;
+      free = numbers .1;
+      unaimed = numbers .5;
+      well = fit-parts names r (fits-here .1) .0;
+      tight = fit-parts names r (fits-here .1) .3;
+      expression = fit-parts names r (fits-here .1) .2;
+      no-eval = no-eval-here;
+      settled-kept = facts .settled-kept;
+      apart = apart-here;
+      this-kept = facts .this-kept;
+    }
+
+    this-known : ThisKnown setting t
+    this-known e = fine .this-in (let a = trees-before (λ t. one (somewhere (λ p. not (thisBlocks f p)) t)) in let b = one-of (somewhere (λ p. not (thisBlocks f p)) t) (unfold unblocked in e) in omega (arith, a, b))
+
+    asked : Asked setting t
+    asked = (let a = numbers .0 in omega (arith, a), numbers .4, fit-parts names t (fits-here .0) .0, fit-parts names t (fits-here .0) .1, this-known)
+
+    free-here : FreeBehind v (move .place) (move .after)
+    free-here =
+        let a = numbers .2 in
+        let b = numbers .6 in
+        let c = accepted .once v (asked-name .0) in
+        let d = fine .declared-in v in
+        let e = sum-before (λ d. one (eqb (d .name) v)) (λ t. 0) in
+        let g : _≡_ {A = ℕ} (one (eqb v v)) 1 = rw (eq-eqb v v refl) in
+        free-behind v (move .place) t (move .after) (omega (arith, a)) (omega (arith, b)) (omega (arith, c, d, e, g))
+
+    kept-here : FoldKeeps names m start φ → drop setting (runStatements names m P (begin start)) ≡ drop setting (runStatements names m Q (begin start))
+    kept-here keeps =
+        ap (λ X. drop setting (runStatements names m X (begin start))) (move .from)
+        ∙ fold-program setting (move .before) (move .kind) (move .earlier) (move .place) (move .after) t t′ (begin start) (move .plain) (asked-name .0) asked (move .placed) free-here (λ s e x s′ g. keeps s s′ x (ap (λ X. runStatements names m X (begin start)) (move .stood) ∙ e) g)
+        ∙ ap (λ X. drop setting (runStatements names m X (begin start))) (sym (move .into))
+
+    -- the fold keeps the run, the value of the name apart
+    pub fold-kept : FoldKeeps names m start φ → shifted (Put (φ .name) (m .undefined)) (runStatements names m P (begin start)) ≡ shifted (Put (φ .name) (m .undefined)) (runStatements names m Q (begin start))
+    unfolding drop
+    fold-kept keeps = kept-here keeps
+
+  -- The program behind the fold.
+  abbrev open-at : ℕ → Bool
+  open-at p = not (thisBlocks f p)
+
+  one-time : (c : ℕ) → times 1 c ≡ c
+  unfolding times
+  one-time c = omega arith
+
+  fold-this : (b : Bool) → somewhere open-at t′ ≡ b → 1 ≤ unblockedTrees f Q → thisUnblocked f ≡ true
+  fold-this true e h =
+      let a = trees-before (λ t. one (somewhere open-at t)) in
+      by-or (somewhere open-at t) (somewhere open-at r) (λ g. fine .this-in (let d = one-of (somewhere open-at t) g in omega (arith, a, d))) (λ g. fine .this-in (let d = one-of (somewhere open-at r) g in omega (arith, a, d))) (some-turned open-at turned e)
+  fold-this false e h =
+      fine .this-in (let a = trees-before (λ t. one (somewhere open-at t)) in let d = trees-behind (λ t. one (somewhere open-at t)) in let k = one-none (somewhere open-at t′) e in omega (arith, a, d, k, h))
+
+  pub fold-fine : Fine f Q
+  fold-fine = record {
+    fits =
+        let a = fine .fits in
+        let b = trees-before (misfit names) in
+        let c = trees-behind (misfit names) in
+        let d = misfit-none names t′ (fit-turned names v r (fits-here .1) turned (fits-here .0)) in
+        omega (arith, a, b, c, d);
+    reads-in = λ a e.
+        let b = fine .reads-in a e in
+        let c = trees-before (reads a) in
+        let d = trees-behind (reads a) in
+        let g = turned-reads v r (fit-parts names r (fits-here .1) .2) a e turned in
+        let h = one-time (reads a r) in
+        omega (arith, b, c, d, g, h);
+    targets-in = λ a e.
+        let b = fine .targets-in a e in
+        let c = trees-before (targets a) in
+        let d = trees-behind (targets a) in
+        let g = turned-targets v r (fit-parts names r (fits-here .1) .2) a e turned in
+        let h = one-time (targets a r) in
+        omega (arith, b, c, d, g, h);
+    declared-in = λ a.
+        let b = fine .declared-in a in
+        let c = sum-before (λ d. one (eqb (d .name) a)) (λ t. 0) in
+        let d = sum-behind (λ d. one (eqb (d .name) a)) (λ t. 0) in
+        let e = there-declared a (move .place) t t′ in
+        omega (arith, b, c, d, e);
+    this-in = λ h. fold-this (somewhere open-at t′) refl h;
+    no-evals =
+        let a = fine .no-evals in
+        let b = sum-before (λ d. one (evalWhole names (d .initializer))) (λ t. 0) in
+        let c = sum-behind (λ d. one (evalWhole names (d .initializer))) (λ t. 0) in
+        let e = eval-there names (move .place) t t′ (λ g. eval-turned names v r (fits-here .1) turned eval-here g) (omega (arith, a, b)) in
+        omega (arith, a, b, c, e);
+  }
+
+  -- its name is declared no more
+  pub gone : declarations (φ .name) Q ≡ 0
+  gone =
+      let c = accepted .once v (asked-name .0) in
+      let d = fine .declared-in v in
+      let e = sum-before (λ d. one (eqb (d .name) v)) (λ t. 0) in
+      let g : _≡_ {A = ℕ} (one (eqb v v)) 1 = rw (eq-eqb v v refl) in
+      let h = sum-behind (λ d. one (eqb (d .name) v)) (λ t. 0) in
+      let i = there-declared v (move .place) t t′ in
+      omega (arith, c, d, e, g, h, i)
