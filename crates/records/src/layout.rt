@@ -10,7 +10,7 @@ pub struct NameId(pub u16);
 
 pub struct ScopeId(pub u16);
 
-pub struct NodeId(pub u16);
+pub struct NodeId(pub usize);
 
 pub struct Header {
     pub options: u8,

@@ -1,2 +1,3 @@
--- The work table that a fold edits.
+-- The work table that a fold edits, and the trees in it.
 pub mod Table
+pub mod Laid

@@ -1,0 +1,32 @@
+-- Trees as they stand in the work table: the records of their preorder, 16 bytes each.
+use Prim.Native.Nat.{ℕ, _*_}
+use mathlib.Core.List.{List, _++_}
+use mathlib.Core.Path.{_≡_}
+use lib.ListN.{length}
+use Rattle.records.specs.Tree.{Tree, Trees, node, none, more, count, recordOf}
+use Rattle.table.specs.Table.{workBytes}
+
+-- a tree, and trees in a row, before other bytes
+unfoldable mutual
+  pub laid : Tree → List ℕ → List ℕ
+  laid (node n kids) rest = workBytes (recordOf n (count kids)) ++ laids kids rest
+
+  pub laids : Trees → List ℕ → List ℕ
+  laids none rest = rest
+  laids (more t ts) rest = laid t (laids ts rest)
+
+-- In a table stands, from node number `at` on, a row of trees between some bytes.
+pub record At (table : List ℕ) (at : ℕ) (ts : Trees) (pre rest : List ℕ) : Type 0 where
+  pub is : table ≡ pre ++ laids ts rest
+  pub starts : length pre ≡ 16 * at
+
+-- the same of one tree
+abbrev pub TreeAt : List ℕ → ℕ → Tree → List ℕ → List ℕ → Type 0
+TreeAt table at t pre rest = At table at (more t none) pre rest
+
+-- some row of so many trees stands there; some tree does
+abbrev pub RowStands : List ℕ → ℕ → ℕ → Type 0
+RowStands table at many = (pre : List ℕ) × (ts : Trees) × (rest : List ℕ) × At table at ts pre rest × (count ts ≡ many)
+
+abbrev pub Stands : List ℕ → ℕ → Type 0
+Stands table at = (pre : List ℕ) × (t : Tree) × (rest : List ℕ) × TreeAt table at t pre rest
