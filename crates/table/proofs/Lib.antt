@@ -1,0 +1,2 @@
+-- Laws of the trees in the work table.
+pub mod Laid
