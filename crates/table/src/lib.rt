@@ -2,10 +2,11 @@
 ghost use mathlib.Core.Path.{_≡_};
 ghost use mathlib.Core.List.{_++_};
 ghost use Prim.Native.Nat.{_+_, _*_, _≤_};
-ghost use lib.ListN.{length, drop};
+ghost use lib.ListN.{length, drop, set};
 ghost use Rattle.records.specs.Record.{nodeAt, nodeBytes};
 ghost use Rattle.records.specs.Records.{recordsFrom, bytesOf};
 ghost use Rattle.table.specs.Table.{workBytes};
+use records::layout::NodeId;
 use records::layout::NodeRecord;
 use records::layout::node_at;
 use writers::put::put_node;
@@ -73,4 +74,20 @@ pub fn put_nodes(out: &mut [u8], table: &[u8], count: usize)
         let at = 12 * i;
         put_node(&mut out[at..], n);
     }
+}
+
+// The record of a node of the table.
+pub fn work_node(nodes: &[u8], at: NodeId) -> NodeRecord
+    requires { ⌜ 16 * at .0 + 16 ≤ length (now nodes) ⌝ }
+    ensures { λ r. ⌜ r ≡ nodeAt (now (nodes .entry)) (16 * at .0) ⌝ }
+{
+    node_at(nodes, 16 * at.0)
+}
+
+// Gives a node of the table other flags.
+pub fn set_flags(nodes: &mut [u8], at: NodeId, flags: u8)
+    requires { ⌜ 16 * at .0 + 16 ≤ length (now nodes) ⌝ }
+    ensures { λ _. ⌜ now (nodes .exit) ≡ set (now (nodes .entry)) (16 * at .0 + 1) flags ⌝ }
+{
+    nodes[16 * at.0 + 1] = flags;
 }
