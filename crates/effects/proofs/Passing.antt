@@ -1,0 +1,65 @@
+-- A row of trees of the work table, passed node by node. Assumes nothing.
+use mathlib.Core.Path.{_≡_, refl, sym, ap, _∙_}
+use mathlib.Core.Bool.{Bool, true, false, _||_, or-false}
+use mathlib.Core.List.{List}
+use Prim.Native.Nat.{ℕ, _+_, _-_, _*_, _≤_, _<_}
+use native.Mathlib.Omega.{arith}
+use lib.ListN.{length}
+use Rattle.records.specs.Record.{nodeAt}
+use Rattle.records.specs.Tree.{Node, Tree, Trees, node, none, more, count, size, sizes, joined, recordOf, nodeOf}
+use Rattle.records.specs.declared.layout.NodeRecord.{NodeRecord}
+use Rattle.roundtrip.proofs.Rows.{count-joined, sizes-joined, count-sizes}
+use Rattle.table.specs.Laid.{At}
+use Rattle.table.proofs.Laid.{room, room-node, first, node-at, down}
+use Rattle.walk.specs.Effect.{hasEffect, mayHaveSideEffects, anyHasSideEffects}
+use Rattle.effects.proofs.Effects.{or-passed, effects-joined}
+
+-- Of the row `ts`, which begins at node number `at`, the row `left` is still to be passed, from `next` on.
+pub record Left (table : List ℕ) (at : ℕ) (ts : Trees) (rest : List ℕ) (next pending : ℕ) (effect : Bool) (pre : List ℕ) (left : Trees) : Type 0 where
+  pub here : At table next left pre rest
+  pub due : count left ≡ pending
+  pub whole : next + sizes left ≡ at + sizes ts
+  pub acts : (effect || anyHasSideEffects left) ≡ anyHasSideEffects ts
+
+abbrev pub SomeLeft : List ℕ → ℕ → Trees → List ℕ → ℕ → ℕ → Bool → Type 0
+SomeLeft table at ts rest next pending effect = (pre : List ℕ) × (left : Trees) × Left table at ts rest next pending effect pre left
+
+-- so it is of every row that stands there
+abbrev pub Passing : List ℕ → ℕ → ℕ → ℕ → ℕ → Bool → Type 0
+Passing table at many next pending effect =
+    (pre : List ℕ) (ts : Trees) (rest : List ℕ) → At table at ts pre rest → count ts ≡ many → SomeLeft table at ts rest next pending effect
+
+-- at first it is the whole row
+pub passing-none : {table : List ℕ} {at many : ℕ} → Passing table at many at many false
+passing-none pre ts rest here due = (pre, ts, record { here = here; due = due; whole = refl; acts = refl })
+
+-- every tree that is due has a node inside the table
+pub pending-fits : {table : List ℕ} {at : ℕ} {ts : Trees} {rest pre : List ℕ} {next pending : ℕ} {effect : Bool} {left : Trees}
+    → Left table at ts rest next pending effect pre left → 16 * next + 16 * pending ≤ length table
+pending-fits {left = left} l = omega (arith, room (l .here), count-sizes left, l .due)
+
+-- one node more: its children are due in its place
+pub passing-more : {table : List ℕ} {at : ℕ} {ts : Trees} {rest pre : List ℕ} {next pending : ℕ} {effect : Bool} (left : Trees)
+    → Left table at ts rest next pending effect pre left → 0 < pending
+    → (r : NodeRecord) (children : ℕ) (own : Bool) → r ≡ nodeAt table (16 * next) → children ≡ r .children → own ≡ hasEffect (nodeOf r)
+    → SomeLeft table at ts rest (next + 1) (pending - 1 + children) (effect || own)
+unfolding count size sizes mayHaveSideEffects anyHasSideEffects recordOf nodeOf
+passing-more none l some r children own is k o = absurd (omega (arith, l .due))
+passing-more {effect = effect} (more (node n kids) ts) l some r children own is k o =
+    let e = is ∙ node-at (first (l .here)) in (
+      _,
+      joined kids ts,
+      record {
+        here = down (l .here);
+        due = rw (count-joined, k, e) (omega (arith, l .due));
+        whole = rw sizes-joined (omega (arith, l .whole));
+        acts = rw (o, e, effects-joined) (or-passed effect (hasEffect n) (anyHasSideEffects kids) (anyHasSideEffects ts) ∙ l .acts);
+      },
+    )
+
+-- nothing is due: the row is passed
+pub passing-all : {table : List ℕ} {at : ℕ} {ts : Trees} {rest pre : List ℕ} {next pending : ℕ} {effect : Bool} (left : Trees)
+    → Left table at ts rest next pending effect pre left → pending ≤ 0 → (next ≡ at + sizes ts) × (effect ≡ anyHasSideEffects ts)
+unfolding count sizes anyHasSideEffects
+passing-all {effect = effect} none l over = (omega (arith, l .whole), sym (or-false effect) ∙ l .acts)
+passing-all (more t ts) l over = absurd (omega (arith, l .due))
