@@ -9,9 +9,10 @@ use Rattle.records.specs.Record.{nodeAt}
 use Rattle.records.specs.Tree.{Node, Tree, Trees, node, none, more, count, size, sizes, joined, recordOf, nodeOf}
 use Rattle.records.specs.declared.layout.NodeRecord.{NodeRecord}
 use Rattle.roundtrip.proofs.Rows.{count-joined, sizes-joined, count-sizes}
-use Rattle.table.specs.Laid.{At}
+use Rattle.table.specs.Laid.{At, TreeAt}
 use Rattle.table.proofs.Laid.{room, room-node, first, node-at, down}
 use Rattle.walk.specs.Effect.{hasEffect, mayHaveSideEffects, anyHasSideEffects}
+use Rattle.effects.specs.Passes.{Passes}
 use Rattle.effects.proofs.Effects.{or-passed, effects-joined}
 
 -- Of the row `ts`, which begins at node number `at`, the row `left` is still to be passed, from `next` on.
@@ -63,3 +64,10 @@ pub passing-all : {table : List ℕ} {at : ℕ} {ts : Trees} {rest pre : List �
 unfolding count sizes anyHasSideEffects
 passing-all {effect = effect} none l over = (omega (arith, l .whole), sym (or-false effect) ∙ l .acts)
 passing-all (more t ts) l over = absurd (omega (arith, l .due))
+
+-- A row of one tree, passed: where the tree ends, and its effect.
+pub passes-tree : {table : List ℕ} {at : ℕ} {t : Tree} {pre rest : List ℕ} {next : ℕ} {effect : Bool} → Passes table at 1 next effect → TreeAt table at t pre rest
+    → (next ≡ at + size t) × (effect ≡ mayHaveSideEffects t)
+unfolding count sizes anyHasSideEffects
+passes-tree {t = t} {pre} {rest} p h =
+    let q = p pre (more t none) rest h refl in (omega (arith, q .0), q .1 ∙ or-false (mayHaveSideEffects t))
