@@ -1,16 +1,16 @@
 -- A row of trees of the work table, passed node by node. Assumes nothing.
-use mathlib.Core.Path.{_≡_, refl, sym, ap, _∙_}
-use mathlib.Core.Bool.{Bool, true, false, _||_, or-false}
+use mathlib.Core.Path.{_≡_, refl, sym, _∙_}
+use mathlib.Core.Bool.{Bool, false, _||_, or-false}
 use mathlib.Core.List.{List}
 use Prim.Native.Nat.{ℕ, _+_, _-_, _*_, _≤_, _<_}
 use native.Mathlib.Omega.{arith}
 use lib.ListN.{length}
 use Rattle.records.specs.Record.{nodeAt}
-use Rattle.records.specs.Tree.{Node, Tree, Trees, node, none, more, count, size, sizes, joined, recordOf, nodeOf}
+use Rattle.records.specs.Tree.{Tree, Trees, node, none, more, count, size, sizes, joined, recordOf, nodeOf}
 use Rattle.records.specs.declared.layout.NodeRecord.{NodeRecord}
 use Rattle.roundtrip.proofs.Rows.{count-joined, sizes-joined, count-sizes}
 use Rattle.table.specs.Laid.{At, TreeAt}
-use Rattle.table.proofs.Laid.{room, room-node, first, node-at, down}
+use Rattle.table.proofs.Laid.{room, first, node-at, down}
 use Rattle.walk.specs.Effect.{hasEffect, mayHaveSideEffects, anyHasSideEffects}
 use Rattle.effects.specs.Passes.{Passes}
 use Rattle.effects.proofs.Effects.{or-passed, effects-joined}
