@@ -38,7 +38,7 @@ fn work_bytes(n: NodeRecord) -> [u8; 16]
 }
 
 // Lays a record of the table down at the start of `out`.
-fn put_work_node(out: &mut [u8], n: NodeRecord)
+pub fn put_work_node(out: &mut [u8], n: NodeRecord)
     requires { ⌜ 16 ≤ length (now out) ⌝ }
     ensures { λ _. ⌜ now (out .exit) ≡ workBytes n ++ drop 16 (now (out .entry)) ⌝ }
 {

@@ -12,7 +12,7 @@ use Rattle.walk.specs.Shape.{is, Choice, never, skips, cuts, picks, Shap
 use Rattle.walk.specs.Effect.{mayHaveSideEffects}
 use Rattle.walk.specs.Substitute.{Answer, replaced, stopped, passed, Plan, all, first, nothing, value, test, branches, tag, next, at, preserveIndirectAccess, asTag, inOrder, inBranches, byPlan, ofNode, isSpecificId, keepsIndirect, keepsCallee, stopsAtTarget, planFor, plan, substituteInExpression, substituteInChildren}
 
-size-at : (position : ℕ) (t : Tree) → size (at position t) ≡ size t
+pub size-at : (position : ℕ) (t : Tree) → size (at position t) ≡ size t
 unfolding at size
 size-at position (node n kids) = refl
 

@@ -1,0 +1,3 @@
+-- Blocks of bytes, and trees as blocks.
+pub mod Moves
+pub mod Laws

@@ -1,0 +1,38 @@
+-- `splice::blocks::put_record` meets its contract. Assumes nothing.
+use Rattle.table.specs.Table.{workBytes}
+use Rattle.table.proofs.Laid.{work-length}
+use Rattle.splice.proofs.Moves.{overwritten}
+use borrow.Author.Needs.{needs}
+use Rattle.splice.proofs.blocks.put_record.Statement.{statement}
+use Rattle.splice.proofs.blocks.put_record.Tie as tie
+
+sub-put-work-node : tie.Need-sub-put-work-node
+sub-put-work-node c = search needs
+
+part-put-work-node-start : tie.Need-part-put-work-node-start
+part-put-work-node-start c = search needs
+
+part-put-work-node-end : tie.Need-part-put-work-node-end
+part-put-work-node-end c = search needs
+
+put-work-node-requires : tie.Need-put-work-node-requires
+put-work-node-requires c κs = search needs
+
+same-length : tie.Need-same-length
+same-length c = search needs
+
+returns : tie.Need-returns
+returns c =
+    let a = (c .before .before .before .before .before) .args in
+    overwritten (a .at) 16 (a .nodes .now) (workBytes (a .n)) _ (work-length (a .n)) ((c .before .before .put-work-node) .ensures)
+
+pub put-record-spec : {M : Type 1} → statement M
+put-record-spec =
+    tie.close
+    (tie.spec
+    sub-put-work-node
+    part-put-work-node-start
+    part-put-work-node-end
+    put-work-node-requires
+    same-length
+    returns)

@@ -1,0 +1,3 @@
+-- How the initializer of a name gets to the name's place in the work table.
+pub mod Blocks
+pub mod Splice
