@@ -1,6 +1,6 @@
 -- `frames::this_blocks::this_blocks_in` meets its contract: a walk of its MIR by hand, with a loop. In each turn the slice is looked into, one frame is copied out, and it is shut again.
 -- Assumes nothing.
-use mathlib.Core.Path.{_≡_, refl, sym, _∙_}
+use mathlib.Core.Path.{_≡_, refl, sym}
 use mathlib.Core.Bool.{Bool, true, false, not}
 use Prim.Native.Nat.{ℕ, _<_, _*_, _-_, _^_}
 use native.Mathlib.Omega.{arith}
@@ -52,6 +52,7 @@ use Rattle.records.proofs.layout.ScopeId as S
 use Rattle.records.proofs.layout.ScopeId.Laws as S′
 use Rattle.walk.specs.This.{thisBlocks}
 use Rattle.frames.proofs.Searching.{noFrame, Upto, searching-none, upto-more, upto-found, upto-all, no-scope}
+use Rattle.frames.proofs.Values.{frameVal, scopeVal}
 use Rattle.frames.proofs.this_blocks.this_blocks_in.Key.{name as #this-blocks-in}
 use Rattle.frames.proofs.this_blocks.this_blocks_in as fn
 use Rattle.frames.proofs.this_blocks.this_blocks_in.Statement as stated
@@ -77,10 +78,6 @@ word = tyInt w64
 
 abbrev slice : Ty
 slice = sliceTy (tyRef (named 0) imm (pointee (T.the-row .written)))
-
--- the machine's value of a scope's number
-abbrev scopeVal : ScopeId → Val
-scopeVal s = LL.tuple-val S.the-type S′.the-laws (S.the-type .to s)
 
 module _ {M : Type 1} (𝓤 : URA M) (H : Heap 𝓤) (A : Atoms 𝓤) (W : Given 𝓤 H A) (mem : Memory → SProp 𝓤) (run : Routine → Fun 𝓤) (κ : Lft) (q : Share) (b o : ℕ) (γ : GName) (ys : List Frame) (s : ScopeId) (p : ℕ)
     (gn : Room T.the-row (length ys)) (gs : Is S.the-row s (scopeVal s ∷ [])) (gp : p < 2 ^ 32) where
@@ -210,7 +207,7 @@ module _ {M : Type 1} (𝓤 : URA M) (H : Heap 𝓤) (A : Atoms 𝓤) (W : Given
         elem = getD ys j noFrame
 
         mach : Val
-        mach = LL.tuple-val T.the-type T′.the-laws (T.the-type .to elem)
+        mach = frameVal elem
 
         inside : j < n
         inside = omega (arith, pos, u .so .within)
