@@ -6,14 +6,11 @@ ghost use Rattle.records.specs.Tree.{node, none, nodeOf};
 ghost use Rattle.records.specs.File.{fileLength, read};
 ghost use Rattle.walk.specs.Context.{contextOf};
 ghost use Rattle.walk.specs.Target.{memberPartBlocksReorder, computedKeyBlocksReorder};
-use crate::this_blocks::this_blocks;
+use crate::this_expression::this_expression_blocks_reorder;
 use crate::unsettled::identifier_read_blocks_reorder;
-use records::header::part_offsets;
 use records::layout::Header;
 use records::layout::NameId;
 use records::layout::NodeRecord;
-use records::layout::ScopeId;
-use records::number::size;
 
 // A member's object, by its root: a name that is unsettled, `this` where it blocks, anything else.
 pub fn member_part_blocks_reorder(file: &[u8], h: Header, part: NodeRecord) -> bool
@@ -27,14 +24,7 @@ pub fn member_part_blocks_reorder(file: &[u8], h: Header, part: NodeRecord) -> b
         return identifier_read_blocks_reorder(file, h, NameId(part.label));
     }
     if this {
-        let parts = part_offsets(h);
-        return this_blocks(
-            file,
-            parts[2],
-            size(h.frames),
-            ScopeId(h.this_scope),
-            part.position,
-        );
+        return this_expression_blocks_reorder(file, h, part.position);
     }
     true
 }

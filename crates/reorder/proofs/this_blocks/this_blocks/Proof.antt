@@ -2,7 +2,7 @@
 use mathlib.Core.Path.{_≡_, refl, sym, ap, _∙_}
 use native.Mathlib.Omega.{arith}
 use Rattle.records.specs.Record.{frameAt}
-use Rattle.reorder.proofs.Frames.{Searching, searching-none, searching-more, searching-found, searching-all, no-scope}
+use Rattle.frames.proofs.Searching.{Searching, searching-none, searching-more, searching-found, searching-all, no-scope}
 use Rattle.reorder.proofs.this_blocks.this_blocks.Statement.{statement}
 use Rattle.reorder.proofs.this_blocks.this_blocks.Tie as tie
 

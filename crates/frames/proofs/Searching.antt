@@ -1,15 +1,17 @@
 -- Frames that are searched from the last. Assumes nothing.
-use mathlib.Core.Path.{_≡_, refl, sym, ap, _∙_}
-use mathlib.Core.Bool.{Bool, true, false, not, _&&_, _||_, cond, or-true}
+use mathlib.Core.Path.{_≡_, refl, ap, _∙_}
+use mathlib.Core.Bool.{Bool, true, false, not, _&&_, or-true}
 use mathlib.Core.List.{List, [], _∷_}
 use Prim.Native.Nat.{ℕ, zero, suc, _+_, _-_, _*_, _≤_, _<_}
 use native.Mathlib.Omega.{arith}
-use native.Mathlib.Nat.{mul-zero, add-zero, sub-zero}
-use lib.Dec.{eqb}
-use Rattle.records.specs.Limits.{noNumber}
+use lib.Dec.{eqb, leb}
+use lib.ListN.{length, getD}
+use lib.Seq.{ext-getD}
+use Rattle.records.specs.Limits.{noNumber, noPosition}
 use Rattle.records.specs.Records.{recordsFrom, everyFrom}
 use Rattle.records.specs.declared.layout.Frame.{Frame}
 use Rattle.records.proofs.Behind.{one-more, all-left}
+use Rattle.records.proofs.Series.{record-at, records-length}
 use Rattle.records.proofs.Tests.{neither, every-from}
 use Rattle.walk.specs.This.{hasOwner, framesFromOwner, isInitialisedAt, thisBlocks}
 
@@ -76,3 +78,41 @@ module _ {readAt : ℕ → Frame} {len n from scope position : ℕ} where
 pub no-scope : (scope : ℕ) (fs : List Frame) (position : ℕ) → eqb scope noNumber ≡ true → false ≡ thisBlocks scope fs position
 unfolding thisBlocks
 no-scope scope fs position e = rw e
+
+-- the elements of a list are its records
+pub records-of-list : {A : Type 0} (d : A) (xs : List A) → recordsFrom (λ i. getD xs i d) 1 (length xs) 0 ≡ xs
+records-of-list d xs =
+    let long = records-length (λ i. getD xs i d) 1 (length xs) 0 in
+    ext-getD d (recordsFrom (λ i. getD xs i d) 1 (length xs) 0) xs long (λ i h.
+    let at : 0 + 1 * i ≡ i = omega arith in record-at (λ k. getD xs k d) 1 (length xs) i 0 d (omega (arith, h, long)) ∙ ap (λ (k : ℕ). getD xs k d) at)
+
+-- ---- the search over a list, from its last element
+abbrev pub noFrame : Frame
+noFrame = record { scope = 0; zero = 0; initialised = 0 }
+
+module _ (fs : List Frame) (scope position : ℕ) where
+  abbrev pub at : ℕ → Frame
+  at i = getD fs i noFrame
+
+  abbrev pub Upto : Bool → ℕ → Type 0
+  Upto waits i = Searching at 1 (length fs) 0 scope position waits i
+
+  -- as the code says that a frame wasn't initialised
+  abbrev pub unset : Frame → Bool
+  unset f = not (not (eqb (f .initialised) noPosition) && leb (f .initialised) position)
+
+  pub upto-more : (waits : Bool) (i : ℕ) → Upto waits i → 0 < i → eqb (at (i - 1) .scope) scope ≡ false → Upto (unset (at (i - 1)) && waits) (i - 1)
+  unfolding isInitialisedAt
+  upto-more waits i p h e =
+      let k : i - 1 ≡ 0 + 1 * (i - 1) = omega arith in searching-more (at (i - 1)) _ (i - 1) p (omega arith) (ap at k) refl e
+
+  pub upto-found : (waits : Bool) (i : ℕ) → Upto waits i → 0 < i → eqb (at (i - 1) .scope) scope ≡ true → eqb scope noNumber ≡ false
+      → (unset (at (i - 1)) && waits) ≡ thisBlocks scope fs position
+  unfolding isInitialisedAt
+  upto-found waits i p h e en =
+      let k : i - 1 ≡ 0 + 1 * (i - 1) = omega arith in
+      searching-found (at (i - 1)) _ (i - 1) p (omega arith) (ap at k) refl e en
+      ∙ ap (λ (gs : List Frame). thisBlocks scope gs position) (records-of-list noFrame fs)
+
+  pub upto-all : (waits : Bool) (i : ℕ) → Upto waits i → i ≤ 0 → eqb scope noNumber ≡ false → true ≡ thisBlocks scope fs position
+  upto-all waits i p h en = searching-all p h en ∙ ap (λ (gs : List Frame). thisBlocks scope gs position) (records-of-list noFrame fs)
