@@ -1,0 +1,3 @@
+-- The result of an accepted file is accepted with the same room.
+pub mod Growth
+pub mod Tests
