@@ -1,3 +1,5 @@
 -- The result of an accepted file is accepted with the same room.
 pub mod Growth
+pub mod Limits
 pub mod Tests
+pub mod Acceptance
