@@ -1,30 +1,27 @@
 -- The result of an accepted file is accepted with the same room, row by row. Assumes nothing.
-use Prim.Native.Nat.{ℕ, _+_, _*_, _≤_, _<_}
+use Prim.Native.Nat.{ℕ, _+_, _≤_, _<_}
 use native.Mathlib.Omega.{arith}
-use mathlib.Core.Bool.{Bool, true, false, _&&_, _||_, not}
-use mathlib.Core.List.{List, [], _∷_}
+use mathlib.Core.Bool.{true, false}
+use mathlib.Core.List.{List, []}
 use mathlib.Core.Path.{_≡_, refl, sym, ap, _∙_, subst}
 use lib.ListN.{length, getD}
-use lib.Dec.{eqb, ltb, leb}
-use borrow.Author.Tests.{eq-eqb, ne-eqb, ltb-false, le-ltb, leb-true, not-false}
-use Rattle.records.specs.Limits.{noNumber, minStatements}
+use lib.Dec.{eqb, ltb}
+use borrow.Author.Tests.{eq-eqb, ne-eqb, ltb-false, le-ltb}
+use Rattle.records.specs.Limits.{noNumber}
 use Rattle.records.specs.Records.{every, everyFrom}
 use Rattle.records.specs.Record.{headerOf}
-use Rattle.records.specs.Tree.{Trees, count, preorders, rowOf, closed}
-use Rattle.records.specs.Header.{countsFit, optionsKnown, headerScopes, outsideLimits}
+use Rattle.records.specs.Tree.{Trees, count, rowOf}
+use Rattle.records.specs.Header.{outsideLimits}
 use Rattle.records.specs.Facts.{badFacts}
-use Rattle.records.specs.Script.{noName, goodDeclarator, goodStatement, declaratorSum, badScript, declaredTwice}
-use Rattle.records.specs.Node.{goodNode, badNodes}
+use Rattle.records.specs.Script.{noName, goodDeclarator, declaratorSum, badScript, declaredTwice}
+use Rattle.records.specs.Node.{badNodes}
 use Rattle.records.specs.Place.{rootsStand, allPlaced, expressions, badTrees}
 use Rattle.records.specs.Count.{nameRead, targetName, readsOf, targetsOf, goodCounts, badCounts}
-use Rattle.records.specs.File.{File, Statement, Declarator, one, initializers, namesOf, scopesOf, framesOf, nodesOf, declaratorsOf, statementsOf, headerFor, fileLength, allTrees, allDeclarators, declaratorRecords, statementRecords, read, print}
+use Rattle.records.specs.File.{File, Declarator, one, initializers, namesOf, scopesOf, framesOf, nodesOf, declaratorsOf, statementsOf, headerFor, allTrees, allDeclarators, declaratorRecords, statementRecords, read, print}
 use Rattle.records.specs.Refusal.{roomWanted, refusal}
 use Rattle.records.specs.declared.layout.Header.{Header}
-use Rattle.records.specs.declared.layout.NameFacts.{NameFacts}
-use Rattle.records.proofs.Tests.{both, all-three}
 use Rattle.walk.specs.Context.{contextOf, factsOf as factsIn}
 use Rattle.statements.specs.Fold.{withStatements, foldedFile, foldFile, accepted, foldBytes}
-use Rattle.runs.specs.Settled.{factsOf}
 use Rattle.roundtrip.proofs.Preorder.{closed-preorders-alone}
 use Rattle.roundtrip.proofs.Accepted.{Accepted, accepted as rows-passed, accepts, has-length, good-script}
 use Rattle.roundtrip.proofs.PrintedStatements.{declaratorRecords-length}
@@ -32,55 +29,20 @@ use Rattle.roundtrip.proofs.PrintedFile.{printed-header, printed-names, printed
 use Rattle.roundtrip.proofs.PrintedTests.{printed-script, printed-version, printed-measured, statements-good, declarators-summed, trees-counted}
 use Rattle.roundtrip.proofs.ReadFile.{read-declarators, read-header}
 use Rattle.preservation.proofs.Uses.{reads, targets}
-use Rattle.preservation.proofs.Counts.{times, turned-reads, turned-targets}
 use Rattle.preservation.proofs.WellMade.{allWellMade}
-use Rattle.preservation.proofs.Totals.{trees, declarations, sums, program-uses, program-sums, program-declarators}
+use Rattle.preservation.proofs.Totals.{trees, program-uses, program-sums, program-declarators}
 use Rattle.preservation.proofs.Moves.{file-moves}
-use Rattle.preservation.proofs.Fine.{misfit, fit-parts}
+use Rattle.preservation.proofs.Fine.{misfit}
 use Rattle.demand.proofs.Rows.{few-names, good-counts, file-fits, names-accepted}
-use Rattle.acceptance.proofs.Growth.{named, Light, moves-names, moves-lighter, moves-fit}
+use Rattle.acceptance.proofs.Growth.{reads-light, targets-light, moves-names, moves-lighter, moves-fit}
 use Rattle.acceptance.proofs.Limits.{Lower, limits-some, limits-lower, header-lower, room-lower}
 use Rattle.acceptance.proofs.Tests.{row-fit, row-good, misnamed, all-named, named-all, declared-once, counts-less, every-each}
 
--- reads and targets of a name are only moved
-once-times : (c : ℕ) → times 1 c ≡ c
-unfolding times
-once-times c = omega arith
-
-never-times : (c : ℕ) → times 0 c ≡ 0
-unfolding times
-never-times c = refl
-
-module _ (names : List NameFacts) (a : ℕ) (known : eqb noNumber a ≡ false) where
-  reads-light : Light names (reads a)
-  reads-light = record {
-    once = λ v r t t′ g h turned.
-        let x = turned-reads v r (fit-parts names r g .2) a known turned in
-        let y = once-times (reads a r) in
-        omega (arith, x, y);
-    never = λ v t t′ h turned.
-        let x = turned-reads v t (fit-parts names t h .2) a known turned in
-        let y = never-times (reads a t) in
-        omega (arith, x, y);
-  }
-
-  targets-light : Light names (targets a)
-  targets-light = record {
-    once = λ v r t t′ g h turned.
-        let x = turned-targets v r (fit-parts names r g .2) a known turned in
-        let y = once-times (targets a r) in
-        omega (arith, x, y);
-    never = λ v t t′ h turned.
-        let x = turned-targets v t (fit-parts names t h .2) a known turned in
-        let y = never-times (targets a t) in
-        omega (arith, x, y);
-  }
-
 module _ (bs : List ℕ) (room : ℕ) (a : Accepted bs room) where
-  abbrev f : File
+  abbrev pub f : File
   f = read bs
 
-  abbrev g : File
+  abbrev pub g : File
   g = foldFile f .file
 
   abbrev row : Trees
@@ -90,15 +52,15 @@ module _ (bs : List ℕ) (room : ℕ) (a : Accepted bs room) where
   declared = allDeclarators (g .statements)
 
   -- the facts are copied
-  same-names : g .names ≡ namesOf bs
+  pub same-names : g .names ≡ namesOf bs
   unfolding foldFile foldedFile withStatements read
   same-names = refl
 
-  same-scopes : g .scopes ≡ scopesOf bs
+  pub same-scopes : g .scopes ≡ scopesOf bs
   unfolding foldFile foldedFile withStatements read
   same-scopes = refl
 
-  same-frames : g .frames ≡ framesOf bs
+  pub same-frames : g .frames ≡ framesOf bs
   unfolding foldFile foldedFile withStatements read
   same-frames = refl
 
@@ -110,7 +72,7 @@ module _ (bs : List ℕ) (room : ℕ) (a : Accepted bs room) where
       let same = ap (λ (h : Header). h .statements) (read-header bs room a) in
       omega (arith, x, same)
 
-  lower : Lower (headerOf bs) (headerFor g)
+  pub lower : Lower (headerOf bs) (headerFor g)
   lower = subst (λ h. Lower h (headerFor g)) (read-header bs room a) (header-lower f some-statements)
 
   limits : outsideLimits (headerOf (print g)) ≡ false
@@ -178,10 +140,10 @@ module _ (bs : List ℕ) (room : ℕ) (a : Accepted bs room) where
   once =
       rw (printed-declarators g)
       (declared-once declared (λ x n.
-        let h = moves-names f (λ y. one (eqb y x)) (file-moves f) in
-        let i = program-declarators (λ d. one (eqb (d .name) x)) (g .statements) in
-        let j = names-accepted bs room a .once x n in
-        omega (arith, h, i, j)))
+      let h = moves-names f (λ y. one (eqb y x)) (file-moves f) in
+      let i = program-declarators (λ d. one (eqb (d .name) x)) (g .statements) in
+      let j = names-accepted bs room a .once x n in
+      omega (arith, h, i, j)))
 
   -- row 10
   counted : (x : ℕ) → x < length (namesOf bs) → goodCounts (getD (namesOf bs) x noName) (readsOf x row) (targetsOf x row) ≡ true

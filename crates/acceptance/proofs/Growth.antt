@@ -2,18 +2,22 @@
 use Prim.Native.Nat.{ℕ, _+_, _≤_}
 use native.Mathlib.Omega.{arith}
 use mathlib.Core.List.{List}
-use mathlib.Core.Bool.{true}
-use mathlib.Core.Path.{_≡_, refl, sym, ap, _∙_}
+use mathlib.Core.Bool.{true, false}
+use mathlib.Core.Path.{_≡_, refl, ap, _∙_}
+use lib.Dec.{eqb}
+use Rattle.records.specs.Limits.{noNumber}
 use Rattle.records.specs.Tree.{Tree}
 use Rattle.records.specs.File.{given, Declarator, Statement, File}
 use Rattle.records.specs.declared.layout.NameFacts.{NameFacts}
 use Rattle.walk.specs.Context.{contextOf}
 use Rattle.statements.specs.Trace.{Fold}
+use Rattle.preservation.proofs.Uses.{reads, targets}
+use Rattle.preservation.proofs.Counts.{times, turned-reads, turned-targets}
 use Rattle.preservation.proofs.Turned.{Turned, replaced-turned, stopped-turned}
 use Rattle.preservation.proofs.Places.{Place, declarator, statement, initializer}
 use Rattle.preservation.proofs.Moves.{FoldAt, StopAt, DropAt, Moves, done, fold, stop, drop}
 use Rattle.preservation.proofs.Totals.{weighed, ofInitializer, total, totalOf, there, around, site-total, fold-total, drop-total, there-tree, trees}
-use Rattle.preservation.proofs.Fine.{fit, misfit, one-off}
+use Rattle.preservation.proofs.Fine.{fit, misfit, one-off, fit-parts}
 use Rattle.preservation.proofs.FineKept.{none-placed, fit-turned, misfit-none}
 
 -- what a program weighs in the names that it declares
@@ -60,6 +64,40 @@ module _ (f : File) (weight : ℕ → ℕ) where
 pub record Light (names : List NameFacts) (w : Tree → ℕ) : Type 0 where
   pub once : (v : ℕ) (r t t′ : Tree) → fit names r ≡ true → fit names t ≡ true → Turned v r 1 t t′ → w t′ ≤ w t + w r
   pub never : (v : ℕ) (t t′ : Tree) → fit names t ≡ true → Turned v t 0 t t′ → w t′ ≤ w t
+
+once-times : (c : ℕ) → times 1 c ≡ c
+unfolding times
+once-times c = omega arith
+
+never-times : (c : ℕ) → times 0 c ≡ 0
+unfolding times
+never-times c = refl
+
+-- the reads and the targets of a name are such weights
+module _ (names : List NameFacts) (a : ℕ) (known : eqb noNumber a ≡ false) where
+  pub reads-light : Light names (reads a)
+  reads-light = record {
+    once = λ v r t t′ g h turned.
+        let x = turned-reads v r (fit-parts names r g .2) a known turned in
+        let y = once-times (reads a r) in
+        omega (arith, x, y);
+    never = λ v t t′ h turned.
+        let x = turned-reads v t (fit-parts names t h .2) a known turned in
+        let y = never-times (reads a t) in
+        omega (arith, x, y);
+  }
+
+  pub targets-light : Light names (targets a)
+  targets-light = record {
+    once = λ v r t t′ g h turned.
+        let x = turned-targets v r (fit-parts names r g .2) a known turned in
+        let y = once-times (targets a r) in
+        omega (arith, x, y);
+    never = λ v t t′ h turned.
+        let x = turned-targets v t (fit-parts names t h .2) a known turned in
+        let y = never-times (targets a t) in
+        omega (arith, x, y);
+  }
 
 module _ (f : File) where
   abbrev Fits : List Statement → Type 0

@@ -3,3 +3,4 @@ pub mod Growth
 pub mod Limits
 pub mod Tests
 pub mod Acceptance
+pub mod Laws

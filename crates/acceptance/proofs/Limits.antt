@@ -1,15 +1,14 @@
 -- Rows 3 and 11: the counts of a result stay within the limits, and it asks for no more room.
 use Prim.Native.Nat.{ℕ, _+_, _*_, _≤_}
 use native.Mathlib.Omega.{arith}
-use mathlib.Core.Bool.{Bool, true, false, _&&_, _||_, not}
+use mathlib.Core.Bool.{true, false, _&&_}
 use mathlib.Core.List.{List, [], _∷_}
-use mathlib.Core.Path.{_≡_, refl, sym, ap, _∙_}
+use mathlib.Core.Path.{_≡_, refl}
 use lib.ListN.{length, length-map, length-reverse}
-use lib.Dec.{eqb, ltb, leb}
-use borrow.Author.Tests.{leb-true, le-leb, ltb-false, le-ltb, not-false}
+use lib.Dec.{eqb, leb}
+use borrow.Author.Tests.{leb-true, le-leb, not-false}
 use Rattle.records.specs.Limits.{maxNames, minScopes, maxScopes, maxFrames, maxDeclarators, minStatements, maxStatements, maxNodes}
-use Rattle.records.specs.Tree.{sizes}
-use Rattle.records.specs.File.{Statement, declaration, expression, other, File, headerFor, allTrees, allDeclarators, fileLength}
+use Rattle.records.specs.File.{Statement, declaration, expression, other, File, headerFor, fileLength}
 use Rattle.records.specs.Header.{countsFit, optionsKnown, headerScopes, outsideLimits}
 use Rattle.records.specs.declared.layout.Header.{Header}
 use Rattle.records.proofs.Tests.{both, all-three}

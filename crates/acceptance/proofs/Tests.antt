@@ -1,30 +1,29 @@
 -- From sums over a program to the tests of rows 6 to 10.
-use Prim.Native.Nat.{ℕ, zero, suc, _+_, _≤_, _<_}
+use Prim.Native.Nat.{ℕ, suc, _+_, _≤_, _<_}
 use native.Mathlib.Omega.{arith}
-use mathlib.Core.Bool.{Bool, true, false, cond, _&&_, _||_, not}
+use mathlib.Core.Bool.{Bool, true, false, _&&_, _||_, not}
 use mathlib.Core.List.{List, [], _∷_}
-use mathlib.Core.Path.{_≡_, refl, sym, ap, _∙_, subst}
+use mathlib.Core.Path.{_≡_, refl, sym, _∙_, subst}
 use lib.ListN.{length, getD}
 use lib.Dec.{eqb, ltb, leb}
-use borrow.Author.Tests.{eqb-true, eqb-false, eq-eqb, ne-eqb, leb-true, le-leb}
+use borrow.Author.Tests.{eqb-true, eq-eqb, leb-true, le-leb}
 use Rattle.records.specs.Flags.{recorded, mutated, unresolved}
 use Rattle.records.specs.Limits.{noNumber}
 use Rattle.records.specs.Records.{everyFrom, every}
 use Rattle.records.specs.Script.{flagsOf, goodDeclaratorOf, goodDeclarator, declares, declaredTwice}
 use Rattle.records.specs.Node.{goodNode}
-use Rattle.records.specs.Tree.{Node, Tree, Trees, node, none, more, count, recordOf, preorder, preorders}
-use Rattle.records.specs.Place.{root, isExpression, loose, placed, allPlaced, rootsStand}
+use Rattle.records.specs.Tree.{Tree, Trees, node, none, more, count, recordOf, preorder, preorders}
+use Rattle.records.specs.Place.{placed, allPlaced, rootsStand}
 use Rattle.records.specs.Count.{goodCounts}
 use Rattle.records.specs.File.{one, Initializer, bare, given, isGiven, Declarator, declaratorRecords}
 use Rattle.records.specs.declared.layout.NameFacts.{NameFacts}
 use Rattle.records.specs.declared.layout.NodeRecord.{NodeRecord}
 use Rattle.records.specs.declared.layout.DeclaratorRecord.{DeclaratorRecord}
-use Rattle.records.proofs.Tests.{both, every-parts, every-more}
-use Rattle.preservation.proofs.Tables.{or-none, by-or, clash}
+use Rattle.records.proofs.Tests.{every-parts, every-more}
+use Rattle.preservation.proofs.Tables.{clash}
 use Rattle.preservation.proofs.WellMade.{wellMade, allWellMade, well-node, well-more}
 use Rattle.preservation.proofs.Totals.{totalOf, sums}
 use Rattle.preservation.proofs.Fine.{fit, misfit, one-on, one-off, fit-parts}
-use Rattle.preservation.proofs.FineKept.{one-none}
 
 -- Rows 7 and 8, of trees that are fit.
 module _ (names : List NameFacts) where

@@ -39,7 +39,7 @@ use Rattle.preservation.proofs.Totals.{totalOf, sums, program-sums, program-dec
 use Rattle.preservation.proofs.Fine.{fit, misfit, evals, unblockedTrees, Accepted, Fine, fit-whole}
 
 -- a record of a list of good ones
-pub every-at : {A : Type 0} (good : ℕ → A → Bool) (i : ℕ) (xs : List A) (k : ℕ) (d : A) → everyFrom good i xs ≡ true → k < length xs → (j : ℕ) → j ≡ i + k → good j (getD xs k d) ≡ true
+every-at : {A : Type 0} (good : ℕ → A → Bool) (i : ℕ) (xs : List A) (k : ℕ) (d : A) → everyFrom good i xs ≡ true → k < length xs → (j : ℕ) → j ≡ i + k → good j (getD xs k d) ≡ true
 unfolding everyFrom
 every-at good i [] k d e h j q = absurd (omega arith)
 every-at good i (x ∷ xs) zero d e h j q = let z : j ≡ i = omega arith in subst (λ n. good n x ≡ true) (sym z) (and-true (good i x) (everyFrom good (i + 1) xs) e .0)
