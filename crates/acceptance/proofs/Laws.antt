@@ -4,6 +4,7 @@ use native.Mathlib.Omega.{arith}
 use mathlib.Core.List.{List}
 use mathlib.Core.Path.{_≡_, sym, ap, _∙_, subst}
 use lib.ListN.{length}
+use Rattle.records.specs.Bytes.{Bytes}
 use Rattle.records.specs.Record.{headerOf}
 use Rattle.records.specs.File.{File, headerFor, namesOf, scopesOf, framesOf, read, print}
 use Rattle.records.specs.Refusal.{refusal}
@@ -16,6 +17,7 @@ use Rattle.roundtrip.proofs.ReadFile.{read-header}
 use Rattle.demand.proofs.Demand3.{result-read}
 use Rattle.acceptance.proofs.Limits.{Lower, room-lower}
 use Rattle.acceptance.proofs.Acceptance.{lower, same-names, same-scopes, same-frames, result-accepted}
+use Rattle.acceptance.proofs.ResultBytes.{result-bytes}
 
 -- what is returned of accepted bytes
 pub returned : (bytes : List ℕ) (room : ℕ) → refusal bytes room ≡ 0 → foldBytes bytes room ≡ accepted (foldFile (read bytes))
@@ -49,6 +51,10 @@ module _ (bytes : List ℕ) (room : ℕ) (e : refusal bytes room ≡ 0) where
   pub folds-again : foldBytes result room .number ≡ 0
   unfolding accepted
   folds-again = ap (λ (r : Returned). r .number) (returned result room accepted-again)
+
+  -- and is bytes if they were
+  pub bytes-again : Bytes bytes → Bytes result
+  bytes-again small = result-bytes bytes room small e
 
   -- the length that is returned is the result's
   pub result-measured : foldBytes bytes room .resultLength ≡ length result

@@ -3,4 +3,7 @@ pub mod Growth
 pub mod Limits
 pub mod Tests
 pub mod Acceptance
+pub mod Narrow
+pub mod Small
+pub mod ResultBytes
 pub mod Laws

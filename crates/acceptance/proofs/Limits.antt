@@ -38,15 +38,15 @@ below : (a b c : ℕ) → a ≤ b → leb b c ≡ true → leb a c ≡ true
 below a b c h e = let x = leb-true b c e in le-leb a c (omega (arith, h, x))
 
 -- the limits, one by one
-record Within (h : Header) : Type 0 where
-  names : leb (h .names) maxNames ≡ true
-  scope : leb minScopes (h .scopes) ≡ true
-  scopes : leb (h .scopes) maxScopes ≡ true
-  frames : leb (h .frames) maxFrames ≡ true
-  declarators : leb (h .declarators) maxDeclarators ≡ true
-  some : leb minStatements (h .statements) ≡ true
-  statements : leb (h .statements) maxStatements ≡ true
-  nodes : leb (h .nodes + 2 * h .declarators) maxNodes ≡ true
+pub record Within (h : Header) : Type 0 where
+  pub names : leb (h .names) maxNames ≡ true
+  pub scope : leb minScopes (h .scopes) ≡ true
+  pub scopes : leb (h .scopes) maxScopes ≡ true
+  pub frames : leb (h .frames) maxFrames ≡ true
+  pub declarators : leb (h .declarators) maxDeclarators ≡ true
+  pub some : leb minStatements (h .statements) ≡ true
+  pub statements : leb (h .statements) maxStatements ≡ true
+  pub nodes : leb (h .nodes + 2 * h .declarators) maxNodes ≡ true
 
 within : (h : Header) → countsFit h ≡ true → Within h
 within h e =
@@ -75,18 +75,22 @@ counts-lower h h′ l w =
       below (h′ .nodes + 2 * h′ .declarators) (h .nodes + 2 * h .declarators) maxNodes (l .nodes) (w .nodes),
     )
 
-pub limits-some : (h : Header) → outsideLimits h ≡ false → 1 ≤ h .statements
+-- row 3, part by part
+pub limits-parts : (h : Header) → outsideLimits h ≡ false → Within h × (optionsKnown h ≡ true) × (headerScopes h ≡ true) × (eqb (h .last) 0 ≡ true)
 unfolding outsideLimits
-limits-some h e =
+limits-parts h e =
     let (x, scopes, last) = all-three (countsFit h && optionsKnown h) (headerScopes h) (eqb (h .last) 0) (not-false _ e) in
-    leb-true 1 (h .statements) (within h (both (countsFit h) (optionsKnown h) x .0) .some)
+    let (counts, options) = both (countsFit h) (optionsKnown h) x in
+    (within h counts, options, scopes, last)
+
+pub limits-some : (h : Header) → outsideLimits h ≡ false → 1 ≤ h .statements
+limits-some h e = leb-true 1 (h .statements) (limits-parts h e .0 .some)
 
 pub limits-lower : (h h′ : Header) → Lower h h′ → outsideLimits h ≡ false → outsideLimits h′ ≡ false
 unfolding outsideLimits
 limits-lower h h′ l e =
-    let (x, scopes, last) = all-three (countsFit h && optionsKnown h) (headerScopes h) (eqb (h .last) 0) (not-false _ e) in
-    let (counts, options) = both (countsFit h) (optionsKnown h) x in
-    rw (counts-lower h h′ l (within h counts), l .options, options, l .current, l .this, l .scopes, scopes, l .last, last)
+    let (counts, options, scopes, last) = limits-parts h e in
+    rw (counts-lower h h′ l counts, l .options, options, l .current, l .this, l .scopes, scopes, l .last, last)
 
 -- The statement that was searched last is always kept.
 abbrev Some : {A : Type 0} → List A → Type 0
