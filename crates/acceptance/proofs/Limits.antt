@@ -34,7 +34,8 @@ pub record Lower (h h′ : Header) : Type 0 where
   pub nodes : h′ .nodes + 2 * h′ .declarators ≤ h .nodes + 2 * h .declarators
   pub weight : h′ .nodes + h′ .declarators ≤ h .nodes + h .declarators
 
-below : (a b c : ℕ) → a ≤ b → leb b c ≡ true → leb a c ≡ true
+-- what is no more than a number within a limit is within it
+pub below : (a b c : ℕ) → a ≤ b → leb b c ≡ true → leb a c ≡ true
 below a b c h e = let x = leb-true b c e in le-leb a c (omega (arith, h, x))
 
 -- the limits, one by one

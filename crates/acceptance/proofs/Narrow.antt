@@ -16,6 +16,7 @@ use Rattle.walk.specs.Substitute.{at, preserveIndirectAccess}
 use Rattle.preservation.proofs.Tables.{clash}
 use Rattle.preservation.proofs.Totals.{sums}
 use Rattle.preservation.proofs.Turned.{Turned, same, here, apart, under, AllTurned, no-more, both as each}
+use Rattle.preservation.proofs.FineKept.{one-not}
 use Rattle.preservation.proofs.Fine.{one-off}
 use Rattle.acceptance.proofs.Growth.{Light}
 
@@ -144,16 +145,12 @@ mutual
   row-written none rest h g = g
   row-written (more t ts) rest h g = let (a, b) = row-parts t ts h in tree-written t (preorders ts rest) a (row-written ts rest b g)
 
-not-wide : (b : Bool) → b ≡ true → one (not b) ≡ 0
-not-wide true e = refl
-not-wide false e = clash false refl e
-
 none-wide : (ts : Trees) → allNarrow ts ≡ true → sums wide ts ≡ 0
 unfolding sums
 none-wide none h = refl
 none-wide (more t ts) h =
     let (a, b) = row-parts t ts h in
-    let x = not-wide (narrow t) a in
+    let x = one-not (narrow t) a in
     let y = none-wide ts b in
     omega (arith, x, y)
 

@@ -6,7 +6,7 @@ use mathlib.Core.List.{List, [], _∷_}
 use mathlib.Core.Path.{_≡_, refl, sym, _∙_, subst}
 use lib.ListN.{length, getD}
 use lib.Dec.{eqb, ltb, leb}
-use borrow.Author.Tests.{eqb-true, eq-eqb, leb-true, le-leb}
+use borrow.Author.Tests.{eqb-true, eq-eqb}
 use Rattle.records.specs.Flags.{recorded, mutated, unresolved}
 use Rattle.records.specs.Limits.{noNumber}
 use Rattle.records.specs.Records.{everyFrom, every}
@@ -15,15 +15,18 @@ use Rattle.records.specs.Node.{goodNode}
 use Rattle.records.specs.Tree.{Tree, Trees, node, none, more, count, recordOf, preorder, preorders}
 use Rattle.records.specs.Place.{placed, allPlaced, rootsStand}
 use Rattle.records.specs.Count.{goodCounts}
-use Rattle.records.specs.File.{one, Initializer, bare, given, isGiven, Declarator, declaratorRecords}
+use Rattle.records.specs.File.{one, isGiven, Declarator, declaratorRecords}
 use Rattle.records.specs.declared.layout.NameFacts.{NameFacts}
 use Rattle.records.specs.declared.layout.NodeRecord.{NodeRecord}
 use Rattle.records.specs.declared.layout.DeclaratorRecord.{DeclaratorRecord}
 use Rattle.records.proofs.Tests.{every-parts, every-more}
+use Rattle.roundtrip.proofs.PrintedTests.{given-known}
 use Rattle.preservation.proofs.Tables.{clash}
 use Rattle.preservation.proofs.WellMade.{wellMade, allWellMade, well-node, well-more}
 use Rattle.preservation.proofs.Totals.{totalOf, sums}
+use Rattle.preservation.proofs.FineKept.{one-not}
 use Rattle.preservation.proofs.Fine.{fit, misfit, one-on, one-off, fit-parts}
+use Rattle.acceptance.proofs.Limits.{below}
 
 -- Rows 7 and 8, of trees that are fit.
 module _ (names : List NameFacts) where
@@ -61,11 +64,6 @@ abbrev pub misnamed : List NameFacts → ℕ → ℕ
 misnamed names a = one (not (mayDeclare names a))
 
 module _ (names : List NameFacts) where
-  given-known : (i : Initializer) → leb (isGiven i) 1 ≡ true
-  unfolding isGiven
-  given-known bare = refl
-  given-known (given t) = refl
-
   abbrev recordFor : Declarator → DeclaratorRecord
   recordFor d = record { name = d .name; present = isGiven (d .initializer) }
 
@@ -73,16 +71,12 @@ module _ (names : List NameFacts) where
   unfolding goodDeclarator goodDeclaratorOf mayDeclare
   declarator-is d = rw (given-known (d .initializer))
 
-  not-one : (b : Bool) → b ≡ true → one (not b) ≡ 0
-  not-one true e = refl
-  not-one false e = clash false refl e
-
   pub all-named : (ds : List Declarator) → every (goodDeclarator names) (declaratorRecords ds) ≡ true → totalOf (λ d. misnamed names (d .name)) (λ t. 0) ds ≡ 0
   unfolding declaratorRecords totalOf
   all-named [] e = refl
   all-named (d ∷ ds) e =
       let (a, b) = every-parts (goodDeclarator names) (recordFor d) (declaratorRecords ds) e in
-      let x = not-one (mayDeclare names (d .name)) (sym (declarator-is d) ∙ a) in
+      let x = one-not (mayDeclare names (d .name)) (sym (declarator-is d) ∙ a) in
       let y = all-named ds b in
       omega (arith, x, y)
 
@@ -114,16 +108,13 @@ declared-once (d ∷ ds) h = rw (declared-once ds (λ a n. (let x = h a n in ome
         rw (e, declares-none (d .name) ds (omega (arith, x, y)))
 
 -- Row 10: fewer reads and targets are good if more were.
-fewer : (a b c : ℕ) → a ≤ b → leb b c ≡ true → leb a c ≡ true
-fewer a b c h e = let x = leb-true b c e in le-leb a c (omega (arith, h, x))
-
 none-left : (a b : ℕ) → a ≤ b → eqb b 0 ≡ true → eqb a 0 ≡ true
 none-left a b h e = let x = eqb-true b 0 e in eq-eqb a 0 (omega (arith, h, x))
 
 pub counts-less : (n : NameFacts) (reads reads′ targets targets′ : ℕ) → reads′ ≤ reads → targets′ ≤ targets → goodCounts n reads targets ≡ true → goodCounts n reads′ targets′ ≡ true
 unfolding goodCounts
 counts-less n reads reads′ targets targets′ h g =
-    parts (unresolved (n .flags)) (recorded (n .flags)) (leb reads (n .reads)) (leb reads′ (n .reads)) (leb targets (n .writes)) (leb targets′ (n .writes)) (eqb targets 0) (eqb targets′ 0) (mutated (n .flags)) (fewer reads′ reads (n .reads) h) (fewer targets′ targets (n .writes) g) (none-left targets′ targets g)
+    parts (unresolved (n .flags)) (recorded (n .flags)) (leb reads (n .reads)) (leb reads′ (n .reads)) (leb targets (n .writes)) (leb targets′ (n .writes)) (eqb targets 0) (eqb targets′ 0) (mutated (n .flags)) (below reads′ reads (n .reads) h) (below targets′ targets (n .writes) g) (none-left targets′ targets g)
   where
     parts : (u k a a′ b b′ c c′ m : Bool) → (a ≡ true → a′ ≡ true) → (b ≡ true → b′ ≡ true) → (c ≡ true → c′ ≡ true) → (u || k && a && b || not k && (c || m)) ≡ true → (u || k && a′ && b′ || not k && (c′ || m)) ≡ true
     parts true k a a′ b b′ c c′ m f g h e = refl

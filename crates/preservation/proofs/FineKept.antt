@@ -32,7 +32,7 @@ use Rattle.preservation.proofs.Moves.{StopAt, DropAt}
 use Rattle.preservation.proofs.Totals.{weighed, ofInitializer, totalOf, total, there, around, site-total, drop-total, there-tree, there-declared, trees, declarations}
 use Rattle.preservation.proofs.Fine.{fit, misfit, evals, unblockedTrees, Fine, one-on, one-off, fit-parts, fit-whole}
 
-one-not : (b : Bool) → b ≡ true → one (not b) ≡ 0
+pub one-not : (b : Bool) → b ≡ true → one (not b) ≡ 0
 one-not true e = refl
 one-not false e = clash false refl e
 
