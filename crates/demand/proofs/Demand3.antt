@@ -12,7 +12,7 @@ use Rattle.preservation.proofs.Whole.{fold-unchanged}
 use Rattle.demand.proofs.Rows.{names-accepted, file-fine}
 
 -- the result of accepted bytes, read as a file
-result-read : (bytes : List ℕ) (room : ℕ) → refusal bytes room ≡ 0 → read (foldBytes bytes room .result) ≡ foldFile (read bytes) .file
+pub result-read : (bytes : List ℕ) (room : ℕ) → refusal bytes room ≡ 0 → read (foldBytes bytes room .result) ≡ foldFile (read bytes) .file
 unfolding foldBytes accepted
 result-read bytes room e = rw e (read-print (foldFile (read bytes) .file))
 

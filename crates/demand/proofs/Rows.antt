@@ -236,7 +236,7 @@ module _ (bs : List ℕ) (room : ℕ) (a : Passed bs room) where
       let g = not-false (every (goodName (length (scopesOf bs))) (namesOf bs) && everyFrom goodScope 0 (scopesOf bs) && every (goodFrame (length (scopesOf bs))) (framesOf bs)) (a .facts) in
       and-true (every (goodName (length (scopesOf bs))) (namesOf bs)) (everyFrom goodScope 0 (scopesOf bs)) (and-true (every (goodName (length (scopesOf bs))) (namesOf bs) && everyFrom goodScope 0 (scopesOf bs)) _ g .0) .0
 
-  few-names : length (namesOf bs) ≤ 256
+  pub few-names : length (namesOf bs) ≤ 256
   unfolding outsideLimits
   few-names =
       let h = headerOf bs in
@@ -254,7 +254,7 @@ module _ (bs : List ℕ) (room : ℕ) (a : Passed bs room) where
       omega (arith, y, z)
 
   -- the counts of a name of the file
-  good-counts : (x : ℕ) → x < length (namesOf bs) → goodCounts (factsOf f x) (readsOf x (allTrees (f .statements))) (targetsOf x (allTrees (f .statements))) ≡ true
+  pub good-counts : (x : ℕ) → x < length (namesOf bs) → goodCounts (factsOf f x) (readsOf x (allTrees (f .statements))) (targetsOf x (allTrees (f .statements))) ≡ true
   unfolding badCounts contextOf factsIn read
   good-counts x h =
       rw (read-trees bs room a)
@@ -317,9 +317,16 @@ module _ (bs : List ℕ) (room : ℕ) (a : Passed bs room) where
   stand : (rootsStand (allTrees (f .statements)) ≡ true) × (allPlaced (allTrees (f .statements)) ≡ true)
   stand = rw (read-trees bs room a) (good-trees a .2, good-trees a .3)
 
+  -- every tree is fit
+  pub file-fits : trees (misfit (f .names)) (f .statements) ≡ 0
+  file-fits =
+      let h = program-sums (misfit (f .names)) (f .statements) in
+      let g = no-misfits (f .names) (allTrees (f .statements)) (stand .0) (stand .1) (subst (λ ns. allWellMade ns (allTrees (f .statements)) ≡ true) (sym names-are) well) in
+      omega (arith, h, g)
+
   pub file-fine : shapeR f ≡ false → Fine f (f .statements)
   file-fine e = record {
-    fits = (let h = program-sums (misfit (f .names)) (f .statements) in let g = no-misfits (f .names) (allTrees (f .statements)) (stand .0) (stand .1) (subst (λ ns. allWellMade ns (allTrees (f .statements)) ≡ true) (sym names-are) well) in omega (arith, h, g));
+    fits = file-fits;
     reads-in = λ x n. omega arith;
     targets-in = λ x n. omega arith;
     declared-in = λ x. omega arith;

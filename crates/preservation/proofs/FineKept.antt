@@ -32,7 +32,7 @@ use Rattle.preservation.proofs.Moves.{StopAt, DropAt}
 use Rattle.preservation.proofs.Totals.{weighed, ofInitializer, totalOf, total, there, around, site-total, drop-total, there-tree, there-declared, trees, declarations}
 use Rattle.preservation.proofs.Fine.{fit, misfit, evals, unblockedTrees, Fine, one-on, one-off, fit-parts, fit-whole}
 
-one-not : (b : Bool) → b ≡ true → one (not b) ≡ 0
+pub one-not : (b : Bool) → b ≡ true → one (not b) ≡ 0
 one-not true e = refl
 one-not false e = clash false refl e
 
@@ -78,7 +78,7 @@ misfit-none names t e = one-not (fit names t) e
 -- A tree where nothing was placed is so for any initializer.
 module _ {v : ℕ} {r : Tree} (x : Tree) where
   mutual
-    none-placed : {k : ℕ} {t u : Tree} → Turned v r k t u → k ≡ 0 → Turned v x 0 t u
+    pub none-placed : {k : ℕ} {t u : Tree} → Turned v r k t u → k ≡ 0 → Turned v x 0 t u
     none-placed (same e p) z = same refl p
     none-placed (here e q p) z = absurd (omega arith)
     none-placed (apart t′ e q i p) z = absurd (omega arith)

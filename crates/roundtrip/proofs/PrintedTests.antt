@@ -36,7 +36,7 @@ module _ (f : File) where
   unfolding otherLength
   printed-measured = rw (printed-header f, eq-eqb (length (print f)) (fileLength (headerFor f)) (printed-length f))
 
-given-known : (i : Initializer) → leb (isGiven i) 1 ≡ true
+pub given-known : (i : Initializer) → leb (isGiven i) 1 ≡ true
 unfolding isGiven
 given-known bare = refl
 given-known (given t) = refl
