@@ -32,7 +32,7 @@ use Rattle.preservation.proofs.Uses.{reads, targets}
 use Rattle.preservation.proofs.WellMade.{allWellMade}
 use Rattle.preservation.proofs.Totals.{trees, program-uses, program-sums, program-declarators}
 use Rattle.preservation.proofs.Moves.{file-moves}
-use Rattle.preservation.proofs.Fine.{misfit}
+use Rattle.preservation.proofs.Fit.{misfit}
 use Rattle.demand.proofs.Rows.{few-names, good-counts, file-fits, names-accepted}
 use Rattle.acceptance.proofs.Growth.{reads-light, targets-light, moves-names, moves-lighter, moves-fit}
 use Rattle.acceptance.proofs.Limits.{Lower, limits-some, limits-lower, header-lower, room-lower}

@@ -3,22 +3,24 @@ use Prim.Native.Nat.{ℕ, _+_, _≤_}
 use native.Mathlib.Omega.{arith}
 use mathlib.Core.List.{List}
 use mathlib.Core.Bool.{true, false}
-use mathlib.Core.Path.{_≡_, refl, ap, _∙_}
+use mathlib.Core.Path.{_≡_, refl}
 use lib.Dec.{eqb}
 use Rattle.records.specs.Limits.{noNumber}
 use Rattle.records.specs.Tree.{Tree}
-use Rattle.records.specs.File.{given, Declarator, Statement, File}
+use Rattle.records.specs.File.{Declarator, Statement, File}
 use Rattle.records.specs.declared.layout.NameFacts.{NameFacts}
 use Rattle.walk.specs.Context.{contextOf}
 use Rattle.statements.specs.Trace.{Fold}
+use Rattle.preservation.proofs.Tests.{one-off}
 use Rattle.preservation.proofs.Uses.{reads, targets}
 use Rattle.preservation.proofs.Counts.{times, turned-reads, turned-targets}
 use Rattle.preservation.proofs.Turned.{Turned, replaced-turned, stopped-turned}
 use Rattle.preservation.proofs.Places.{Place, declarator, statement, initializer}
 use Rattle.preservation.proofs.Moves.{FoldAt, StopAt, DropAt, Moves, done, fold, stop, drop}
-use Rattle.preservation.proofs.Totals.{weighed, ofInitializer, total, totalOf, there, around, site-total, fold-total, drop-total, there-tree, trees}
-use Rattle.preservation.proofs.Fine.{fit, misfit, one-off, fit-parts}
-use Rattle.preservation.proofs.FineKept.{none-placed, fit-turned, misfit-none}
+use Rattle.preservation.proofs.Totals.{ofInitializer, total, there, trees}
+use Rattle.preservation.proofs.Sums.{fold-before, fold-behind, fold-trees-before, fold-trees-behind, stop-before, stop-behind, stop-trees-before, stop-trees-behind, drop-sum}
+use Rattle.preservation.proofs.Fit.{fit, misfit, fit-parts, fit-turned, misfit-none}
+use Rattle.preservation.proofs.FineKept.{none-placed, no-times}
 
 -- what a program weighs in the names that it declares
 abbrev pub named : (ℕ → ℕ) → List Statement → ℕ
@@ -36,23 +38,20 @@ module _ (f : File) (weight : ℕ → ℕ) where
 
   fold-names : {P Q : List Statement} {φ : Fold} → FoldAt (contextOf f) P Q φ → named weight Q ≤ named weight P
   fold-names {φ = φ} m =
-      let x = ap (named weight) (m .from) ∙ fold-total ofName (λ t. 0) (m .before) (m .kind) (m .earlier) (record { name = φ .name; initializer = given (φ .initializer) }) (m .place) (φ .into) (m .after) in
-      let y = ap (named weight) (m .into) ∙ site-total ofName (λ t. 0) (m .before) (m .kind) (m .earlier) (m .place) (m .tree) (m .after) in
+      let x = fold-before m ofName (λ t. 0) in
+      let y = fold-behind m ofName (λ t. 0) in
       let z = there-named (m .place) (φ .into) (m .tree) in
       omega (arith, x, y, z)
 
   stop-names : {P Q : List Statement} → StopAt (contextOf f) P Q → named weight Q ≤ named weight P
   stop-names m =
-      let x = ap (named weight) (m .from) ∙ site-total ofName (λ t. 0) (m .before) (m .kind) (m .earlier) (m .place) (m .old) (m .after) in
-      let y = ap (named weight) (m .into) ∙ site-total ofName (λ t. 0) (m .before) (m .kind) (m .earlier) (m .place) (m .new) (m .after) in
+      let x = stop-before m ofName (λ t. 0) in
+      let y = stop-behind m ofName (λ t. 0) in
       let z = there-named (m .place) (m .old) (m .new) in
       omega (arith, x, y, z)
 
   drop-names : {P Q : List Statement} → DropAt (contextOf f) P Q → named weight Q ≤ named weight P
-  drop-names m =
-      let x = ap (named weight) (m .from) ∙ drop-total ofName (λ t. 0) (m .before) (m .kind) (m .after) in
-      let y = ap (named weight) (m .into) in
-      omega (arith, x, y)
+  drop-names m = let x = drop-sum m ofName (λ t. 0) in omega (arith, x)
 
   pub moves-names : {P Q : List Statement} {φs : List Fold} → Moves (contextOf f) P Q φs → named weight Q ≤ named weight P
   moves-names (done e g) = rw e (omega arith)
@@ -69,10 +68,6 @@ once-times : (c : ℕ) → times 1 c ≡ c
 unfolding times
 once-times c = omega arith
 
-never-times : (c : ℕ) → times 0 c ≡ 0
-unfolding times
-never-times c = refl
-
 -- the reads and the targets of a name are such weights
 module _ (names : List NameFacts) (a : ℕ) (known : eqb noNumber a ≡ false) where
   pub reads-light : Light names (reads a)
@@ -83,7 +78,7 @@ module _ (names : List NameFacts) (a : ℕ) (known : eqb noNumber a ≡ false) w
         omega (arith, x, y);
     never = λ v t t′ h turned.
         let x = turned-reads v t (fit-parts names t h .2) a known turned in
-        let y = never-times (reads a t) in
+        let y = no-times (reads a t) in
         omega (arith, x, y);
   }
 
@@ -95,7 +90,7 @@ module _ (names : List NameFacts) (a : ℕ) (known : eqb noNumber a ≡ false) w
         omega (arith, x, y);
     never = λ v t t′ h turned.
         let x = turned-targets v t (fit-parts names t h .2) a known turned in
-        let y = never-times (targets a t) in
+        let y = no-times (targets a t) in
         omega (arith, x, y);
   }
 
@@ -103,70 +98,33 @@ module _ (f : File) where
   abbrev Fits : List Statement → Type 0
   Fits P = trees (misfit (f .names)) P ≡ 0
 
-  module _ (w : Tree → ℕ) where
-    abbrev rest : List Statement → List Declarator → Place → List Statement → ℕ
-    rest before ds p after = total (ofInitializer w) w before + totalOf (ofInitializer w) w ds + around (ofInitializer w) w p after
-
-    given-weight : (r : Tree) → weighed w (given r) ≡ w r
-    unfolding weighed
-    given-weight r = refl
-
-    -- a program with a tree in a place, and with a declarator before it
-    with-fold : {P Q : List Statement} {φ : Fold} (m : FoldAt (contextOf f) P Q φ) → trees w P ≡ rest (m .before) (m .earlier) (m .place) (m .after) + w (φ .into) + w (φ .initializer)
-    with-fold {φ = φ} m =
-        let x = ap (trees w) (m .from) ∙ fold-total (ofInitializer w) w (m .before) (m .kind) (m .earlier) (record { name = φ .name; initializer = given (φ .initializer) }) (m .place) (φ .into) (m .after) in
-        let y = there-tree w (m .place) (φ .into) in
-        let z = given-weight (φ .initializer) in
-        omega (arith, x, y, z)
-
-    after-fold : {P Q : List Statement} {φ : Fold} (m : FoldAt (contextOf f) P Q φ) → trees w Q ≡ rest (m .before) (m .earlier) (m .place) (m .after) + w (m .tree)
-    after-fold m =
-        let x = ap (trees w) (m .into) ∙ site-total (ofInitializer w) w (m .before) (m .kind) (m .earlier) (m .place) (m .tree) (m .after) in
-        let y = there-tree w (m .place) (m .tree) in
-        omega (arith, x, y)
-
-    before-stop : {P Q : List Statement} (m : StopAt (contextOf f) P Q) → trees w P ≡ rest (m .before) (m .earlier) (m .place) (m .after) + w (m .old)
-    before-stop m =
-        let x = ap (trees w) (m .from) ∙ site-total (ofInitializer w) w (m .before) (m .kind) (m .earlier) (m .place) (m .old) (m .after) in
-        let y = there-tree w (m .place) (m .old) in
-        omega (arith, x, y)
-
-    after-stop : {P Q : List Statement} (m : StopAt (contextOf f) P Q) → trees w Q ≡ rest (m .before) (m .earlier) (m .place) (m .after) + w (m .new)
-    after-stop m =
-        let x = ap (trees w) (m .into) ∙ site-total (ofInitializer w) w (m .before) (m .kind) (m .earlier) (m .place) (m .new) (m .after) in
-        let y = there-tree w (m .place) (m .new) in
-        omega (arith, x, y)
-
   -- the trees that a move touches are fit
   fold-fit : {P Q : List Statement} {φ : Fold} → FoldAt (contextOf f) P Q φ → Fits P → (fit (f .names) (φ .initializer) ≡ true) × (fit (f .names) (φ .into) ≡ true)
   fold-fit {φ = φ} m fits =
-      let x = with-fold (misfit (f .names)) m in
+      let x = fold-trees-before m (misfit (f .names)) in
       (one-off (fit (f .names) (φ .initializer)) (omega (arith, fits, x)), one-off (fit (f .names) (φ .into)) (omega (arith, fits, x)))
 
   stop-fit : {P Q : List Statement} (m : StopAt (contextOf f) P Q) → Fits P → fit (f .names) (m .old) ≡ true
-  stop-fit m fits = let x = before-stop (misfit (f .names)) m in one-off (fit (f .names) (m .old)) (omega (arith, fits, x))
+  stop-fit m fits = let x = stop-trees-before m (misfit (f .names)) in one-off (fit (f .names) (m .old)) (omega (arith, fits, x))
 
   module _ (w : Tree → ℕ) (light : Light (f .names) w) where
     fold-lighter : {P Q : List Statement} {φ : Fold} → FoldAt (contextOf f) P Q φ → Fits P → trees w Q ≤ trees w P
     fold-lighter {φ = φ} m fits =
         let (r, t) = fold-fit m fits in
-        let x = with-fold w m in
-        let y = after-fold w m in
+        let x = fold-trees-before m w in
+        let y = fold-trees-behind m w in
         let z = light .once (φ .name) (φ .initializer) (φ .into) (m .tree) r t (replaced-turned (contextOf f) (φ .name) (φ .initializer) (φ .into) (m .tree) (m .placed)) in
         omega (arith, x, y, z)
 
     stop-lighter : {P Q : List Statement} → StopAt (contextOf f) P Q → Fits P → trees w Q ≤ trees w P
     stop-lighter m fits =
-        let x = before-stop w m in
-        let y = after-stop w m in
+        let x = stop-trees-before m w in
+        let y = stop-trees-behind m w in
         let z = light .never (m .name) (m .old) (m .new) (stop-fit m fits) (none-placed (m .old) (stopped-turned (contextOf f) (m .name) (m .initial) (m .old) (m .new) (m .ended)) refl) in
         omega (arith, x, y, z)
 
     drop-lighter : {P Q : List Statement} → DropAt (contextOf f) P Q → trees w Q ≤ trees w P
-    drop-lighter m =
-        let x = ap (trees w) (m .from) ∙ drop-total (ofInitializer w) w (m .before) (m .kind) (m .after) in
-        let y = ap (trees w) (m .into) in
-        omega (arith, x, y)
+    drop-lighter m = let x = drop-sum m (ofInitializer w) w in omega (arith, x)
 
   -- trees stay fit
   fit-light : Light (f .names) (misfit (f .names))

@@ -13,11 +13,9 @@ use Rattle.records.specs.declared.layout.NodeRecord.{NodeRecord}
 use Rattle.records.proofs.Tests.{both, every-parts, every-more}
 use Rattle.walk.specs.Shape.{cleared}
 use Rattle.walk.specs.Substitute.{at, preserveIndirectAccess}
-use Rattle.preservation.proofs.Tables.{clash}
+use Rattle.preservation.proofs.Tests.{clash, one-off, one-not}
 use Rattle.preservation.proofs.Totals.{sums}
 use Rattle.preservation.proofs.Turned.{Turned, same, here, apart, under, AllTurned, no-more, both as each}
-use Rattle.preservation.proofs.FineKept.{one-not}
-use Rattle.preservation.proofs.Fine.{one-off}
 use Rattle.acceptance.proofs.Growth.{Light}
 
 abbrev fitting : ℕ → ℕ → Bool

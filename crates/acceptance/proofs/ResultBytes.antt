@@ -25,7 +25,7 @@ use Rattle.roundtrip.proofs.Accepted.{Accepted, accepted as rows-passed, good-s
 use Rattle.roundtrip.proofs.PrintedFile.{printed-header, printed-names, printed-nodes, printed-declarators, printed-statements}
 use Rattle.roundtrip.proofs.PrintedTests.{declarators-summed}
 use Rattle.roundtrip.proofs.ReadFile.{read-nodes}
-use Rattle.preservation.proofs.Tables.{by-or}
+use Rattle.preservation.proofs.Tests.{by-or}
 use Rattle.preservation.proofs.Totals.{program-sums}
 use Rattle.preservation.proofs.Moves.{file-moves}
 use Rattle.demand.proofs.Rows.{file-fits}

@@ -20,7 +20,7 @@ use Rattle.records.specs.declared.layout.DeclaratorRecord.{DeclaratorRecord}
 use Rattle.records.specs.declared.layout.StatementRecord.{StatementRecord}
 use Rattle.records.proofs.Tests.{both, all-three, every-parts}
 use Rattle.roundtrip.proofs.Numbers.{u16-fits}
-use Rattle.preservation.proofs.Tables.{by-or, clash}
+use Rattle.preservation.proofs.Tests.{by-or, clash}
 use Rattle.acceptance.proofs.Narrow.{narrowRecord}
 
 pub data Small : List ℕ → Type 0 where

@@ -21,11 +21,10 @@ use Rattle.records.specs.declared.layout.NodeRecord.{NodeRecord}
 use Rattle.records.specs.declared.layout.DeclaratorRecord.{DeclaratorRecord}
 use Rattle.records.proofs.Tests.{every-parts, every-more}
 use Rattle.roundtrip.proofs.PrintedTests.{given-known}
-use Rattle.preservation.proofs.Tables.{clash}
+use Rattle.preservation.proofs.Tests.{clash, one-on, one-off, one-not}
 use Rattle.preservation.proofs.WellMade.{wellMade, allWellMade, well-node, well-more}
 use Rattle.preservation.proofs.Totals.{totalOf, sums}
-use Rattle.preservation.proofs.FineKept.{one-not}
-use Rattle.preservation.proofs.Fine.{fit, misfit, one-on, one-off, fit-parts}
+use Rattle.preservation.proofs.Fit.{fit, misfit, fit-parts}
 use Rattle.acceptance.proofs.Limits.{below}
 
 -- Rows 7 and 8, of trees that are fit.

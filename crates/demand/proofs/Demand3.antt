@@ -1,10 +1,10 @@
 -- Demand 3, proved: the run of an accepted file and the run of its result are the same. Assumes nothing.
 use Prim.Native.Nat.{ℕ}
 use mathlib.Core.List.{List}
-use mathlib.Core.Path.{_≡_, refl, sym, ap, _∙_, subst}
-use Rattle.records.specs.File.{File, read, print}
+use mathlib.Core.Path.{_≡_, sym, subst}
+use Rattle.records.specs.File.{read}
 use Rattle.records.specs.Refusal.{refusal}
-use Rattle.statements.specs.Fold.{foldFile, accepted, refused, foldBytes}
+use Rattle.statements.specs.Fold.{foldFile, accepted, foldBytes}
 use Rattle.runs.specs.Demand.{Unchanged, Demand3, Demand3AsWorded}
 use Rattle.roundtrip.proofs.Accepted.{accepted as rows-passed}
 use Rattle.roundtrip.proofs.RoundTrip.{read-print}
@@ -16,10 +16,12 @@ pub result-read : (bytes : List ℕ) (room : ℕ) → refusal bytes room ≡ 0 �
 unfolding foldBytes accepted
 result-read bytes room e = rw e (read-print (foldFile (read bytes) .file))
 
+-- for every accepted file without shape R
 pub demand-3 : Demand3
 demand-3 bytes room small e plain =
     let rows = rows-passed bytes room e in
     subst (λ g. Unchanged (read bytes) g (foldFile (read bytes) .trace)) (sym (result-read bytes room e)) (fold-unchanged (read bytes) (names-accepted bytes room rows) (file-fine bytes room rows plain))
 
+-- for every accepted file without any of the four shapes
 pub demand-3-as-worded : Demand3AsWorded
 demand-3-as-worded bytes room small e p q r s = demand-3 bytes room small e r

@@ -1,42 +1,42 @@
 -- What the rows of the refusal table say of an accepted file, as the fold of a file asks it.
 use Prim.Native.Nat.{ℕ, zero, suc, _+_, _*_, _≤_, _<_}
 use native.Mathlib.Omega.{arith}
-use mathlib.Core.Bool.{Bool, true, false, cond, _&&_, _||_, not}
-use mathlib.Core.List.{List, [], _∷_, _++_}
-use mathlib.Core.Path.{_≡_, refl, sym, ap, _∙_, subst}
+use mathlib.Core.Bool.{Bool, true, false, _&&_, _||_, not}
+use mathlib.Core.List.{List, [], _∷_}
+use mathlib.Core.Path.{_≡_, refl, sym, subst}
 use lib.ListN.{length, getD}
 use lib.Dec.{eqb, ltb, leb}
-use borrow.Author.Tests.{eqb-true, eqb-false, eq-eqb, ne-eqb, ltb-true, ltb-false, leb-true, lt-ltb, not-false}
+use borrow.Author.Tests.{eqb-true, ne-eqb, ltb-true, ltb-false, leb-true, not-false, not-true}
 use Rattle.records.specs.Flags.{recorded, mutated, unresolved, isEval}
-use Rattle.records.specs.Limits.{noNumber, maxNames}
+use Rattle.records.specs.Limits.{noNumber}
 use Rattle.records.specs.Records.{everyFrom, every}
 use Rattle.records.specs.Record.{headerOf}
 use Rattle.records.specs.Header.{countsFit, optionsKnown, headerScopes, outsideLimits}
 use Rattle.records.specs.Facts.{goodUnresolved, goodResolved, goodName, goodScope, goodFrame, badFacts}
 use Rattle.records.specs.Script.{noName, flagsOf, goodDeclaratorOf, goodDeclarator, declares, declaredTwice}
 use Rattle.records.specs.Node.{goodNode}
-use Rattle.records.specs.Tree.{Node, Tree, Trees, node, none, more, count, recordOf, preorder, preorders, rowOf}
+use Rattle.records.specs.Tree.{Tree, Trees, node, none, more, count, recordOf, preorder, preorders, rowOf}
 use Rattle.records.specs.Place.{root, isExpression, loose, placed, allPlaced, rootsStand}
 use Rattle.records.specs.Count.{goodCounts, badCounts, readsOf, targetsOf}
-use Rattle.records.specs.File.{one, namesOf, scopesOf, framesOf, nodesOf, declaratorsOf, Initializer, bare, given, isGiven, Declarator, Statement, File, read, declaratorRecords, allDeclarators, allTrees}
+use Rattle.records.specs.File.{one, namesOf, scopesOf, framesOf, nodesOf, isGiven, Declarator, File, read, declaratorRecords, allDeclarators, allTrees}
 use Rattle.records.specs.declared.layout.NameFacts.{NameFacts}
 use Rattle.records.specs.declared.layout.NodeRecord.{NodeRecord}
-use Rattle.records.specs.declared.layout.DeclaratorRecord.{DeclaratorRecord}
 use Rattle.records.proofs.Tests.{every-parts}
 use Rattle.walk.specs.Context.{contextOf, factsOf as factsIn}
 use Rattle.walk.specs.Unsettled.{isWritten, symbolValueMayChange, isClosedOverBlockScopedRead, unsettled, isImport}
 use Rattle.walk.specs.Context.{isScript}
 use Rattle.runs.specs.Run.{resolved}
-use Rattle.runs.specs.Settled.{factsOf, settled, thisBlocks}
+use Rattle.runs.specs.Settled.{factsOf, settled}
 use Rattle.runs.specs.Shapes.{someIn, someOf, declaredIn, declared, evalWhole, someEval, shapeR}
 use Rattle.runs.specs.Facts.{thisUnblocked}
 use Rattle.roundtrip.proofs.Accepted.{Accepted as Passed, good-script, good-nodes, good-trees}
 use Rattle.roundtrip.proofs.ReadFile.{namesOf-length, read-declarators, read-trees, read-nodes}
-use Rattle.preservation.proofs.Tables.{and-true, or-none, clash}
-use Rattle.preservation.proofs.WellMade.{wellMade, allWellMade}
-use Rattle.preservation.proofs.Remade.{somewhere}
-use Rattle.preservation.proofs.Totals.{totalOf, sums, program-sums, program-declarators, trees, declarations}
-use Rattle.preservation.proofs.Fine.{fit, misfit, evals, unblockedTrees, Accepted, Fine, fit-whole}
+use Rattle.preservation.proofs.Tests.{and-true, or-none, clash}
+use Rattle.preservation.proofs.WellMade.{wellMade, allWellMade, make-node, make-more}
+use Rattle.preservation.proofs.Totals.{totalOf, sums, trees, program-sums, program-declarators, declaring}
+use Rattle.preservation.proofs.Fine.{Accepted, Fine, unblockedAt}
+use Rattle.preservation.proofs.Positions.{somewhere}
+use Rattle.preservation.proofs.Fit.{misfit, fit-whole}
 
 -- a record of a list of good ones
 every-at : {A : Type 0} (good : ℕ → A → Bool) (i : ℕ) (xs : List A) (k : ℕ) (d : A) → everyFrom good i xs ≡ true → k < length xs → (j : ℕ) → j ≡ i + k → good j (getD xs k d) ≡ true
@@ -51,19 +51,7 @@ getD-out [] k d h = refl
 getD-out (x ∷ xs) zero d h = absurd (omega arith)
 getD-out (x ∷ xs) (suc k) d h = getD-out xs k d (omega arith)
 
--- trees: nodes good by themselves, from their records
-every-first : {A : Type 0} (good : A → Bool) (x : A) (xs : List A) → every good (x ∷ xs) ≡ true → (good x ≡ true) × (every good xs ≡ true)
-every-first good x xs h = every-parts good x xs h
-
 module _ (names : List NameFacts) where
-  well-node : (n : Node) (ts : Trees) → goodNode names (recordOf n (count ts)) ≡ true → allWellMade names ts ≡ true → wellMade names (node n ts) ≡ true
-  unfolding wellMade
-  well-node n ts a b = rw (a, b)
-
-  well-more : (t : Tree) (ts : Trees) → wellMade names t ≡ true → allWellMade names ts ≡ true → allWellMade names (more t ts) ≡ true
-  unfolding wellMade
-  well-more t ts a b = rw (a, b)
-
   well-none : allWellMade names none ≡ true
   unfolding wellMade
   well-none = refl
@@ -76,16 +64,16 @@ module _ (names : List NameFacts) where
 
     made : (t : Tree) (rest : List NodeRecord) → Good (preorder t rest) → (wellMade names t ≡ true) × Good rest
     made (node n kids) rest h =
-        let (a, b) = every-first (goodNode names) (recordOf n (count kids)) (preorders kids rest) h in
+        let (a, b) = every-parts (goodNode names) (recordOf n (count kids)) (preorders kids rest) h in
         let (c, d) = all-made kids rest b in
-        (well-node n kids a c, d)
+        (make-node names n kids a c, d)
 
     all-made : (ts : Trees) (rest : List NodeRecord) → Good (preorders ts rest) → (allWellMade names ts ≡ true) × Good rest
     all-made none rest h = (well-none, h)
     all-made (more t ts) rest h =
         let (a, b) = made t (preorders ts rest) h in
         let (c, d) = all-made ts rest b in
-        (well-more t ts a c, d)
+        (make-more names t ts a c, d)
 
   no-misfits : (ts : Trees) → rootsStand ts ≡ true → allPlaced ts ≡ true → allWellMade names ts ≡ true → sums (misfit names) ts ≡ 0
   unfolding sums rootsStand placed wellMade
@@ -95,14 +83,10 @@ module _ (names : List NameFacts) where
       let (a₃, a₄) = and-true (isExpression (root t .kind)) (not (loose t)) a₁ in
       let (b₁, b₂) = and-true (placed t) (allPlaced ts) b in
       let (c₁, c₂) = and-true (wellMade names t) (allWellMade names ts) c in
-      let h = fit-whole names t b₁ c₁ a₃ (off (loose t) a₄) in
+      let h = fit-whole names t b₁ c₁ a₃ (not-true (loose t) a₄) in
       let g : _≡_ {A = ℕ} (misfit names t) 0 = rw h in
       let i = no-misfits ts a₂ b₂ c₂ in
       omega (arith, g, i)
-    where
-      off : (b : Bool) → not b ≡ true → b ≡ false
-      off true e = sym e
-      off false e = refl
 
 -- a node somewhere in a row of trees
 some-sums : (φ : ℕ → Bool) (ts : Trees) → 1 ≤ sums (λ t. one (somewhere φ t)) ts → someOf (λ n kids. φ (n .position)) ts ≡ true
@@ -126,10 +110,7 @@ no-evals names (d ∷ ds) e =
 
 -- Declarators.
 module _ (a : ℕ) where
-  abbrev Named : Declarator → ℕ
-  Named d = one (eqb (d .name) a)
-
-  undeclared : (ds : List Declarator) → declares a (declaratorRecords ds) ≡ false → totalOf Named (λ t. 0) ds ≡ 0
+  undeclared : (ds : List Declarator) → declares a (declaratorRecords ds) ≡ false → totalOf (declaring a) (λ t. 0) ds ≡ 0
   unfolding declares declaratorRecords totalOf
   undeclared [] e = refl
   undeclared (d ∷ ds) e =
@@ -138,14 +119,14 @@ module _ (a : ℕ) where
       let h = undeclared ds y in
       omega (arith, g, h)
 
-  declared-once : (ds : List Declarator) → eqb a noNumber ≡ false → declaredTwice (declaratorRecords ds) ≡ false → totalOf Named (λ t. 0) ds ≤ 1
+  declared-once : (ds : List Declarator) → eqb a noNumber ≡ false → declaredTwice (declaratorRecords ds) ≡ false → totalOf (declaring a) (λ t. 0) ds ≤ 1
   unfolding declaredTwice declaratorRecords totalOf
   declared-once [] n e = omega arith
   declared-once (d ∷ ds) n e =
       let (x, y) = or-none (not (eqb (d .name) noNumber) && declares (d .name) (declaratorRecords ds)) (declaredTwice (declaratorRecords ds)) e in
       by (eqb (d .name) a) refl x (declared-once ds n y)
     where
-      by : (b : Bool) → eqb (d .name) a ≡ b → (not (eqb (d .name) noNumber) && declares (d .name) (declaratorRecords ds)) ≡ false → totalOf Named (λ t. 0) ds ≤ 1 → one (eqb (d .name) a) + totalOf Named (λ t. 0) ds ≤ 1
+      by : (b : Bool) → eqb (d .name) a ≡ b → (not (eqb (d .name) noNumber) && declares (d .name) (declaratorRecords ds)) ≡ false → totalOf (declaring a) (λ t. 0) ds ≤ 1 → one (eqb (d .name) a) + totalOf (declaring a) (λ t. 0) ds ≤ 1
       by true q x h =
           let z : (not (eqb a noNumber) && declares a (declaratorRecords ds)) ≡ false = rw (eqb-true (d .name) a q) at x in
           let w : declares a (declaratorRecords ds) ≡ false = rw n at z in
@@ -159,20 +140,16 @@ module _ (a : ℕ) where
   unfolding declaratorRecords declaredIn
   declared-good names [] n e h = clash false refl h
   declared-good names (d ∷ ds) n e h =
-      let (x, y) = every-first (goodDeclarator names) (record { name = d .name; present = isGiven (d .initializer) }) (declaratorRecords ds) e in
+      let (x, y) = every-parts (goodDeclarator names) (record { name = d .name; present = isGiven (d .initializer) }) (declaratorRecords ds) e in
       by (eqb (d .name) a) refl x (λ g. declared-good names ds n y g)
     where
-      off : (b : Bool) → not b ≡ true → b ≡ false
-      off true e = sym e
-      off false e = refl
-
       here : (present : ℕ) → goodDeclarator names (record { name = a; present = present }) ≡ true → (ltb a (length names) ≡ true) × (unresolved (flagsOf names a) ≡ false)
       here present g = told (unfold goodDeclarator goodDeclaratorOf in (rw n at g))
         where
           told : (leb present 1 && (ltb a (length names) && not (unresolved (flagsOf names a)))) ≡ true → (ltb a (length names) ≡ true) × (unresolved (flagsOf names a) ≡ false)
           told g =
               let (p, q) = and-true (ltb a (length names)) (not (unresolved (flagsOf names a))) (and-true (leb present 1) _ g .1) in
-              (p, off (unresolved (flagsOf names a)) q)
+              (p, not-true (unresolved (flagsOf names a)) q)
 
       by : (b : Bool) → eqb (d .name) a ≡ b → goodDeclarator names (record { name = d .name; present = isGiven (d .initializer) }) ≡ true → (declaredIn a ds ≡ true → (ltb a (length names) ≡ true) × (unresolved (flagsOf names a) ≡ false)) → (ltb a (length names) ≡ true) × (unresolved (flagsOf names a) ≡ false)
       by true q x f = here (isGiven (d .initializer)) (subst (λ n. goodDeclarator names (record { name = n; present = isGiven (d .initializer) }) ≡ true) (eqb-true (d .name) a q) x)
@@ -183,17 +160,13 @@ unresolved-off : (x y z : Bool) → (x && y || not x && z) ≡ true → x ≡ fa
 unresolved-off true y z e g = clash true g refl
 unresolved-off false y z e g = e
 
-not-on : (b : Bool) → not b ≡ true → b ≡ false
-not-on true e = sym e
-not-on false e = refl
-
 -- a resolved name isn't `eval`
 plain-name : (scopes : ℕ) (n : NameFacts) → goodName scopes n ≡ true → unresolved (n .flags) ≡ false → isEval (n .flags) ≡ false
 unfolding goodName
 plain-name scopes n e g =
     let (x, y) = and-true (ltb (n .flags) 512) (unresolved (n .flags) && goodUnresolved n || not (unresolved (n .flags)) && goodResolved scopes n) e in
     let z = unresolved-off (unresolved (n .flags)) (goodUnresolved n) (goodResolved scopes n) y g in
-    not-on (isEval (n .flags)) (and-true (not (isEval (n .flags))) (ltb (n .scope) scopes) (and-true (not (isEval (n .flags)) && ltb (n .scope) scopes) _ z .0) .0)
+    not-true (isEval (n .flags)) (and-true (not (isEval (n .flags))) (ltb (n .scope) scopes) (and-true (not (isEval (n .flags)) && ltb (n .scope) scopes) _ z .0) .0)
 
 -- the counts of a recorded name, and the targets of one that isn't written
 recorded-counts : (n : NameFacts) (reads targets : ℕ) → goodCounts n reads targets ≡ true → unresolved (n .flags) ≡ false → recorded (n .flags) ≡ true → (reads ≤ n .reads) × (targets ≤ n .writes)
@@ -276,7 +249,7 @@ module _ (bs : List ℕ) (room : ℕ) (a : Passed bs room) where
   facts-flags x = refl
 
   resolved-off : (x : ℕ) → resolved (f .names) x ≡ true → unresolved (factsOf f x .flags) ≡ false
-  resolved-off x e = rw (facts-flags x) (not-on (unresolved (flagsOf (f .names) x)) e)
+  resolved-off x e = rw (facts-flags x) (not-true (unresolved (flagsOf (f .names) x)) e)
 
   known-name : (x : ℕ) → eqb x noNumber ≡ false → declared f x ≡ true → (resolved (f .names) x ≡ true) × (isEval (flagsOf (f .names) x) ≡ false)
   known-name x n e =
@@ -290,7 +263,7 @@ module _ (bs : List ℕ) (room : ℕ) (a : Passed bs room) where
   settled-name x e = told (parts e)
     where
       parts : settled f x ≡ true → (ltb x (length (f .names)) ≡ true) × (unsettled (contextOf f) x ≡ false)
-      parts e = unfold settled in (let (p, q) = and-true (ltb x (length (f .names))) (not (unsettled (contextOf f) x)) e in (p, not-on (unsettled (contextOf f) x) q))
+      parts e = unfold settled in (let (p, q) = and-true (ltb x (length (f .names))) (not (unsettled (contextOf f) x)) e in (p, not-true (unsettled (contextOf f) x) q))
 
       reasons : unsettled (contextOf f) x ≡ false → (unresolved (factsOf f x .flags) ≡ false) × (isWritten (factsOf f x) ≡ false)
       reasons q = unfold unsettled symbolValueMayChange in (let (g, h) = or-none (unresolved (factsOf f x .flags) || symbolValueMayChange (contextOf f) (factsOf f x)) (isClosedOverBlockScopedRead (contextOf f) (factsOf f x)) q in let (i, j) = or-none (unresolved (factsOf f x .flags)) (symbolValueMayChange (contextOf f) (factsOf f x)) g in (i, or-none (isImport (factsOf f x .flags) || isScript (contextOf f) && eqb (factsOf f x .scope) 0) (isWritten (factsOf f x)) j .1))
@@ -303,10 +276,11 @@ module _ (bs : List ℕ) (room : ℕ) (a : Passed bs room) where
           let (u, w) = reasons q in
           (ne-eqb noNumber x (λ z. omega (arith, i, k)), unwritten-targets (recorded (factsOf f x .flags)) (factsOf f x) (readsOf x (allTrees (f .statements))) (targetsOf x (allTrees (f .statements))) refl (good-counts x i) u w)
 
+  -- what acceptance says of the names
   pub names-accepted : Accepted f
   names-accepted = record {
     counts = λ x e g. recorded-counts (factsOf f x) (readsOf x (allTrees (f .statements))) (targetsOf x (allTrees (f .statements))) (good-counts x (recorded-in x e)) (resolved-off x g) e;
-    once = λ x n. (let h = program-declarators (λ d. one (eqb (d .name) x)) (f .statements) in let g = declared-once x (allDeclarators (f .statements)) n (rw (read-declarators bs room a) (a .once)) in omega (arith, h, g));
+    once = λ x n. (let h = program-declarators (declaring x) (f .statements) in let g = declared-once x (allDeclarators (f .statements)) n (rw (read-declarators bs room a) (a .once)) in omega (arith, h, g));
     known = known-name;
     settled-unaimed = settled-name;
   }
@@ -324,13 +298,14 @@ module _ (bs : List ℕ) (room : ℕ) (a : Passed bs room) where
       let g = no-misfits (f .names) (allTrees (f .statements)) (stand .0) (stand .1) (subst (λ ns. allWellMade ns (allTrees (f .statements)) ≡ true) (sym names-are) well) in
       omega (arith, h, g)
 
+  -- what it says of the trees; that no initializer is `eval` is shape R
   pub file-fine : shapeR f ≡ false → Fine f (f .statements)
   file-fine e = record {
     fits = file-fits;
     reads-in = λ x n. omega arith;
     targets-in = λ x n. omega arith;
     declared-in = λ x. omega arith;
-    this-in = λ h. unfold thisUnblocked in some-sums (λ p. not (thisBlocks f p)) (allTrees (f .statements)) (let g = program-sums (λ t. one (somewhere (λ p. not (thisBlocks f p)) t)) (f .statements) in omega (arith, h, g));
+    this-in = λ h. unfold thisUnblocked in some-sums (unblockedAt f) (allTrees (f .statements)) (let g = program-sums (λ t. one (somewhere (unblockedAt f) t)) (f .statements) in omega (arith, h, g));
     no-evals = (let h = program-declarators (λ d. one (evalWhole (f .names) (d .initializer))) (f .statements) in let g = no-evals (f .names) (allDeclarators (f .statements)) (plain-file e) in omega (arith, h, g));
   }
     where

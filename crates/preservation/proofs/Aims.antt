@@ -1,17 +1,17 @@
 -- The target of an assignment into whose value the initializer goes: it gives the same before and after the initializer.
-use Prim.Native.Nat.{ℕ, _+_, _≤_}
+use Prim.Native.Nat.{ℕ}
 use native.Mathlib.Omega.{arith}
 use mathlib.Core.Bool.{Bool, true, false, cond, _&&_, _||_, not}
 use mathlib.Core.List.{List, [], _∷_}
-use mathlib.Core.Path.{_≡_, refl, sym, ap, ap₂, _∙_, subst}
+use mathlib.Core.Path.{_≡_, refl, sym, ap, _∙_, subst}
 use lib.ListN.{length}
 use lib.Dec.{eqb, ltb}
 use borrow.Author.Tests.{eqb-true}
 use Rattle.records.specs.Flags.{marked, optional}
-use Rattle.records.specs.Node.{isLink, goodNode}
-use Rattle.records.specs.Tree.{Node, Tree, Trees, node, none, more, count, recordOf, others}
-use Rattle.records.specs.File.{File, firstTree}
-use Rattle.records.specs.Place.{root, loose, looseFirst}
+use Rattle.records.specs.Node.{isLink}
+use Rattle.records.specs.Tree.{Node, Tree, Trees, node, none, more, count, others}
+use Rattle.records.specs.File.{firstTree}
+use Rattle.records.specs.Place.{loose, looseFirst}
 use Rattle.records.specs.Count.{usesIn}
 use Rattle.records.specs.declared.layout.NameFacts.{NameFacts}
 use Rattle.walk.specs.Context.{contextOf}
@@ -19,18 +19,16 @@ use Rattle.walk.specs.Unsettled.{unsettled}
 use Rattle.walk.specs.This.{thisBlocks as thisBlocksAt}
 use Rattle.walk.specs.Effect.{hasEffect, mayHaveSideEffects, anyHasSideEffects, isLiteralValue}
 use Rattle.walk.specs.Target.{memberPartBlocksReorder, computedKeyBlocksReorder, mayDependOnSideEffect}
-use Rattle.runs.specs.Store.{Store, set}
 use Rattle.runs.specs.Hand.{Given, only}
 use Rattle.runs.specs.Step.{Role, value, target, ofNode, Step}
-use Rattle.runs.specs.Meaning.{Meaning}
 use Rattle.runs.specs.Form.{is, cleared, isMarked, isMember, isDelete, Form, constant, name, targetName, leaf, stepping, never, form, order, childless, isChain, isPlain, choiceOf, firstRole, originOf}
 use Rattle.runs.specs.State.{State, Out, gave, cut, stop, bind}
-use Rattle.runs.specs.Run.{Turn, all, takes, then, resolved, isRead, gathered, inTurn, stepped, held, own, beside, finished, runNode, run, runChildren, runOthers}
+use Rattle.runs.specs.Run.{all, takes, then, resolved, isRead, gathered, inTurn, stepped, held, own, beside, finished, runNode, run, runChildren, runOthers}
 use Rattle.runs.specs.Settled.{settled, thisBlocks}
 use Rattle.runs.specs.Shapes.{someIn, someOf}
 use Rattle.runs.specs.Facts.{aims, throughBy, through, thisUnblocked, GivesSame}
-use Rattle.preservation.proofs.Words.{Blinds}
-use Rattle.preservation.proofs.Tables.{and-true, or-none, not-on, by-or, clash, and-off, marked-cleared}
+use Rattle.preservation.proofs.Tests.{or-none, by-or, clash, and-off, or-left, or-right}
+use Rattle.preservation.proofs.Tables.{marked-cleared, name-form}
 use Rattle.preservation.proofs.Ends.{Ends, gives, cuts, halts, ends-any, ends-map, ends-and, stepOf}
 use Rattle.preservation.proofs.Uses.{reads, allReads, targets, allTargets, off-read, off-target, off-through}
 use Rattle.preservation.proofs.Kept.{kept-by}
@@ -69,14 +67,6 @@ module _ {Value Rest : Type 0} (σ : Setting Value Rest) where
 
   abbrev pub AllThisKnown : Trees → Type 0
   AllThisKnown ts = someOf unblocked ts ≡ true → thisUnblocked file ≡ true
-
-  or-left : (x y : Bool) → x ≡ true → (x || y) ≡ true
-  or-left true y e = refl
-  or-left false y e = cc
-
-  or-right : (x y : Bool) → y ≡ true → (x || y) ≡ true
-  or-right true y e = refl
-  or-right false y e = e
 
   pub known-here : (n : Node) (ts : Trees) → ThisKnown (node n ts) → unblocked n ts ≡ true → thisUnblocked file ≡ true
   unfolding someIn
@@ -158,10 +148,6 @@ module _ {Value Rest : Type 0} (σ : Setting Value Rest) where
   as-name : {s : S} (f : Form) (n : Node) (cs : S → O (List (Given Value))) → f ≡ name → eqb (n .label) v ≡ false → settled file (n .label) ≡ true → Why s (runNode names m f n value cs)
   as-name f n cs e g h = rw e (by-settled σ n value cs g h)
 
-  name-form : (n : Node) → is 4 n ≡ true → form (cleared n) ≡ name
-  unfolding form cleared
-  name-form n e = rw (eqb-true (n .kind) 4 e)
-
   settled-by : (a : ℕ) → unsettled (contextOf file) a ≡ false → ltb a (length names) ≡ true → settled file a ≡ true
   unfolding settled
   settled-by a e g = rw (e, g)
@@ -169,7 +155,7 @@ module _ {Value Rest : Type 0} (σ : Setting Value Rest) where
   name-why : {s : S} (n : Node) (ts : Trees) → Quiet (node n ts) → is 4 n ≡ true → unsettled (contextOf file) (n .label) ≡ false → Why s (go (node n ts))
   unfolding run cleared
   name-why n ts q e h =
-      as-name (form (cleared n)) (cleared n) _ (name-form n e) (off-read v n ts (q .1) e) (settled-by (n .label) h (named-in names n (count ts) (well-node names n ts (q .0) .0) e))
+      as-name (form (cleared n)) (cleared n) _ (name-form (cleared n) e) (off-read v n ts (q .1) e) (settled-by (n .label) h (named-in names n (count ts) (well-node names n ts (q .0) .0) e))
 
   -- an object, a key
   part-by : {s : S} (n : Node) (ts : Trees) (x y : Bool) → is 4 n ≡ x → is 5 n ≡ y → Quiet (node n ts) → cond x (unsettled (contextOf file) (n .label)) (cond y (thisBlocksAt (contextOf file .thisScope) (contextOf file .frames) (n .position)) true) ≡ false → Why s (go (node n ts))
@@ -201,7 +187,7 @@ module _ {Value Rest : Type 0} (σ : Setting Value Rest) where
   key-why t q h = key-by t (isLiteralValue false t) refl q h
 
   -- Rows of children.
-  none-why : {s : S} → Why s (runOthers names m none all)
+  pub none-why : {s : S} → Why s (runOthers names m none all)
   unfolding run
   none-why = steady (λ u. []) (λ u. refl) (λ a u. refl) (ends-any _ (λ x s′. refl) (λ s′. tt))
 

@@ -1,7 +1,7 @@
 -- A run doesn't look at positions: a tree whose root was given another runs as it did.
 use Prim.Native.Nat.{ℕ}
-use mathlib.Core.Bool.{Bool, true, false, cond}
-use mathlib.Core.List.{List, [], _∷_}
+use mathlib.Core.Bool.{Bool, true, false}
+use mathlib.Core.List.{List}
 use mathlib.Core.Path.{_≡_, refl, ap, _∙_}
 use Rattle.records.specs.Tree.{Node, Tree, Trees, node, none, more}
 use Rattle.records.specs.declared.layout.NameFacts.{NameFacts}
@@ -70,6 +70,7 @@ module _ {Value Rest : Type 0} (names : List NameFacts) (m : Meaning Value Rest)
       ap (λ o. bind (gathered (form (cleared n)) o s) (finished names m (form (cleared n)) (placedAt p (cleared n)) role)) (children-at p ts (form (cleared n)) (cleared n) role s)
       ∙ bind-same (gathered (form (cleared n)) (runChildren names m ts (form (cleared n)) (cleared n) role s) s) _ _ (λ hs s′. finished-at p (form (cleared n)) (cleared n) role hs s′)
 
+  -- the root's position makes no difference
   pub run-at : (p : ℕ) (t : Tree) (role : Role) (s : State Value Rest) → run names m (at p t) role s ≡ run names m t role s
   unfolding at placedAt
   run-at p (node n ts) role s = node-at p n ts role s

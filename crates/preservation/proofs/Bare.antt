@@ -1,9 +1,8 @@
 -- An expression that is no member, no chain over one and not `eval` gives its value and no more.
 use Prim.Native.Nat.{ℕ}
-use native.Mathlib.Omega.{arith}
 use mathlib.Core.Bool.{Bool, true, false, cond, _&&_, _||_}
 use mathlib.Core.List.{List, [], _∷_}
-use mathlib.Core.Path.{_≡_, refl, sym, ap, _∙_}
+use mathlib.Core.Path.{_≡_, refl}
 use lib.Dec.{eqb, ltb}
 use borrow.Author.Tests.{eqb-true, eq-eqb, ne-eqb}
 use Rattle.records.specs.Flags.{isEval}
@@ -11,18 +10,19 @@ use Rattle.records.specs.Script.{flagsOf}
 use Rattle.records.specs.Node.{isLink}
 use Rattle.records.specs.Tree.{Node, Tree, Trees, node, none, more}
 use Rattle.records.specs.File.{firstTree}
-use Rattle.records.specs.Place.{root, isExpression, mayStand, standUnder, placed}
+use Rattle.records.specs.Place.{root, isExpression, mayStand, placed}
 use Rattle.records.specs.declared.layout.NameFacts.{NameFacts}
 use Rattle.walk.specs.Shape.{isMemberExpression}
 use Rattle.walk.specs.Substitute.{isMemberTag}
-use Rattle.runs.specs.Hand.{Beside, nothing, Given, firstOr, only}
-use Rattle.runs.specs.Step.{Role, Step}
+use Rattle.runs.specs.Hand.{Beside, nothing, Given, firstOr}
+use Rattle.runs.specs.Step.{Role}
 use Rattle.runs.specs.Meaning.{Meaning}
 use Rattle.runs.specs.Form.{is, cleared, Form, form, constant, name, targetName, leaf, chain, property, importing, sequence, assignment, stepping, order, childless, isName, isChain, firstRole}
-use Rattle.runs.specs.State.{State, Out, gave, cut, stop, bind}
-use Rattle.runs.specs.Run.{Turn, kept, caught, gathered, goesOn, own, beside, finished, runNode, run, runChildren, runOthers}
-use Rattle.preservation.proofs.Tables.{and-true, or-none, by-or, clash, kindsOf, kinds}
-use Rattle.preservation.proofs.Ends.{Ends, gives, cuts, halts, ends-bind, ends-any, ends-cond, First}
+use Rattle.runs.specs.State.{State, Out, gave}
+use Rattle.runs.specs.Run.{Turn, kept, caught, gathered, goesOn, own, beside, finished, runNode, run, runChildren}
+use Rattle.preservation.proofs.Tests.{or-none, by-or, clash}
+use Rattle.preservation.proofs.Tables.{kindsOf, kinds}
+use Rattle.preservation.proofs.Ends.{Ends, gives, cuts, halts, ends-bind, ends-any, First}
 use Rattle.preservation.proofs.Kept.{under, stands}
 use Rattle.preservation.proofs.Passing.{Only}
 
@@ -157,6 +157,7 @@ module _ {Value Rest : Type 0} (names : List NameFacts) (m : Meaning Value Rest)
   and-last true y e g = g
   and-last false y e g = cc
 
+  -- such an expression gives nothing beside its value
   pub bare-run : (t : Tree) → placed t ≡ true → isExpression (root t .kind) ≡ true → (eqb (root t .kind) 4 && isEval (flagsOf names (root t .label))) ≡ false → isMemberTag t ≡ false → (role : Role) (s : State Value Rest) → Bare (run names m t role s)
   unfolding isMemberTag
   bare-run (node n ts) p x e g role s =

@@ -1,29 +1,28 @@
 -- The answers of a node's children: its first child, a choice, the others.
 use Prim.Native.Nat.{ℕ, _+_, _≤_}
 use native.Mathlib.Omega.{arith}
-use mathlib.Core.Bool.{Bool, true, false, cond, _&&_, _||_, not}
+use mathlib.Core.Bool.{Bool, true, false}
 use mathlib.Core.List.{List, [], _∷_}
-use mathlib.Core.Path.{_≡_, refl, sym, ap, ap₂, _∙_, subst, fun-ext}
+use mathlib.Core.Path.{_≡_, refl, sym, ap, _∙_, subst, fun-ext}
 use lib.Dec.{eqb}
-use Rattle.records.specs.Tree.{Node, Tree, Trees, node, none, more}
+use Rattle.records.specs.Tree.{Node, Tree, Trees, more}
 use Rattle.records.specs.Count.{usesIn}
 use Rattle.records.specs.declared.layout.NameFacts.{NameFacts}
-use Rattle.walk.specs.Substitute.{Answer, replaced, stopped, passed, Plan, all as every, first as leading, nothing as none-at-all, value as behind, test, branches, tag, next, asTag, inOrder, inBranches, byPlan, preserveIndirectAccess}
-use Rattle.runs.specs.Hand.{Beside, Given, only}
+use Rattle.walk.specs.Substitute.{Answer, replaced, stopped, passed, Plan, all as every, first as leading, nothing as none-at-all, value as behind, test, branches, tag, next, asTag, inOrder, byPlan, preserveIndirectAccess}
+use Rattle.runs.specs.Hand.{Given}
 use Rattle.runs.specs.Step.{Role, value}
-use Rattle.runs.specs.Meaning.{Meaning}
-use Rattle.runs.specs.Form.{is, Choice, never, logical, conditional, optionally, Form, choiceOf, firstRole, originOf}
-use Rattle.runs.specs.State.{State, Out, gave, cut, stop, bind}
-use Rattle.runs.specs.Run.{Turn, all, skipped, second, third, takes, then, kept, chosen, goesOn, run, runChildren, runOthers}
-use Rattle.preservation.proofs.Tables.{clash}
+use Rattle.runs.specs.Form.{is, Choice, never, logical, conditional, optionally, Form, choiceOf, firstRole}
+use Rattle.runs.specs.State.{State, Out, gave, cut, bind}
+use Rattle.runs.specs.Run.{Turn, all, skipped, second, third, kept, chosen, goesOn, run, runChildren, runOthers}
+use Rattle.preservation.proofs.Tests.{clash}
 use Rattle.preservation.proofs.Ends.{stepOf}
 use Rattle.preservation.proofs.Uses.{reads, allReads, targets, allTargets, Off, kept-off, first-off, off-through}
-use Rattle.preservation.proofs.Frame.{moved, shifted, shifted-bind, gave-on, goesOn-on}
+use Rattle.preservation.proofs.Frame.{moved, shifted, gave-on, goesOn-on}
 use Rattle.preservation.proofs.Setting.{Setting}
-use Rattle.preservation.proofs.Passing.{Put, put-blind, Only, bind-same, first, drop, Framed, Calm, Reason, calm-first, calm-drop, drop-only, drop-bind, first-bind, first-same, first-only, two-reasons}
+use Rattle.preservation.proofs.Passing.{Put, put-blind, bind-same, first, drop, Framed, Calm, Reason, calm-first, calm-drop, drop-only, drop-bind, first-bind, first-same, first-only, two-reasons}
 use Rattle.preservation.proofs.Same.{hand-of, children-same}
 use Rattle.preservation.proofs.Open.{free-others}
-use Rattle.preservation.proofs.Placing.{over, forks, isNothing, Here, fairs-here, fair-head, fair-tail, tidy, tidy-value, go-off, place-first, place-rest}
+use Rattle.preservation.proofs.Placing.{isNothing, fairs-here, fair-head, fair-tail, tidy, tidy-value, go-off, place-first, place-rest}
 use Rattle.preservation.proofs.Placing as P
 
 -- the turns that a choice may lead to
@@ -113,9 +112,6 @@ module _ {Value Rest : Type 0} (σ : Setting Value Rest) where
       ∙ moved-goes f n cs x s _ e h
       ∙ ap (λ o. bind o (λ hs s′. gave (hand-of f n x ∷ hs) s′)) (sym (calm-first σ q (λ u. chosen (choiceOf f) (choice-of f n x s) cs u) s))
 
-  all-calm : P.Calmly σ all
-  all-calm g = absurd (g refl)
-
   as-goes : (f : Form) (n : Node) (cs : Turn → S → O (List (Given Value))) (x : Given Value) (s : S) → bind (chosen (choiceOf f) (choice-of f n x s) cs s) (λ hs s′. gave (hand-of f n x ∷ hs) s′) ≡ goesOn m f n value cs x s
   unfolding goesOn
   as-goes f n cs x s = refl
@@ -124,7 +120,7 @@ module _ {Value Rest : Type 0} (σ : Setting Value Rest) where
       → D (F (goesOn m f n value (λ w s′. runOthers names m ts w s′) x) s) ≡ D (goesOn m f n value (λ w s′. runOthers names m ts′ w s′) x s)
   goes-place p f n ts ts′ x s e (straight g u) h i =
       ap D (first-same σ _ _ (λ s. straight-goes f n value _ x s g) s ∙ first-bind σ (runOthers names m ts all) _ s)
-      ∙ drop-bind σ _ _ _ (λ hs a s′. gave-on _ s′) (i all all-calm u)
+      ∙ drop-bind σ _ _ _ (λ hs a s′. gave-on _ s′) (i all (P.all-calm σ) u)
       ∙ ap D (sym (straight-goes f n value _ x s g))
   goes-place p f n ts ts′ x s e (choose q u) h i =
       ap D (choose-goes f n _ x s e h q)
@@ -229,6 +225,7 @@ module _ {Value Rest : Type 0} (σ : Setting Value Rest) where
   nothing-good ts (stopped x) g ts′ e = let z : _≡_ {A = ℕ} 0 1 = cc in omega arith
   nothing-good ts passed g ts′ e = let z : _≡_ {A = ℕ} 0 1 = cc in omega arith
 
+  -- a node's first child before the others, as the plan has it
   pub part-good : (p : Plan) (f : Form) (n : Node) (t : Tree) (ts : Trees) (a : Answer Tree) (b : Answer Trees) → Other n → reads v t + allReads v ts ≤ 1 → targets v t ≡ 0 → allTargets v ts ≡ 0 → Links p f n t ts → P.Good σ t a → P.Goods σ (next p) ts b → Parts p f n (more t ts) (byPlan p t ts a b)
   unfolding byPlan next isNothing
   part-good every f n t ts a b o c k l q h g = part-order every f n t ts a b refl o c k l (q .2) (λ t′ e. q .0) (λ ts′ e. q .1) (λ e. refl) h g

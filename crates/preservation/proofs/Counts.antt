@@ -1,20 +1,19 @@
 -- A fold adds no use of any name: what the tree and the initializer had, less the name's read.
 use Prim.Native.Nat.{ℕ, zero, suc, _+_, _≤_}
 use native.Mathlib.Omega.{arith}
-use mathlib.Core.Bool.{Bool, true, false, cond, _&&_, _||_}
-use mathlib.Core.Path.{_≡_, refl, sym, ap, _∙_}
+use mathlib.Core.Bool.{Bool, true, false, cond}
+use mathlib.Core.Path.{_≡_, refl, ap}
 use lib.Dec.{eqb, ltb}
-use borrow.Author.Tests.{eqb-true, eq-eqb, ne-eqb}
-use Rattle.records.specs.Flags.{compound, shorthand, proto}
+use borrow.Author.Tests.{eqb-true, ne-eqb}
 use Rattle.records.specs.Limits.{noNumber}
 use Rattle.records.specs.Tree.{Node, Tree, Trees, node, none, more}
 use Rattle.records.specs.Place.{root, isExpression}
 use Rattle.records.specs.Count.{targetName, firstTarget, nameRead, usesIn, usesOf}
 use Rattle.walk.specs.Shape.{is, cleared}
 use Rattle.walk.specs.Substitute.{at, preserveIndirectAccess, isSpecificId}
-use Rattle.preservation.proofs.Tables.{and-true, by-or, clash}
+use Rattle.preservation.proofs.Tests.{by-or, clash}
 use Rattle.preservation.proofs.At.{placedAt}
-use Rattle.preservation.proofs.Uses.{reads, allReads, targets, allTargets}
+use Rattle.preservation.proofs.Uses.{reads, allReads, targets, specific, specific-read}
 use Rattle.preservation.proofs.Turned.{Turned, same, here, apart, under, AllTurned, no-more, both}
 
 -- so often a number
@@ -89,11 +88,6 @@ module _ (v : ℕ) (r : Tree) (named : Node → Trees → ℕ) (a gain : ℕ)
     rows-uses (no-more {k = k} e) = let x = none-uses k e gain 0 in omega (arith, x)
     rows-uses (both {k = k} {t = t} {t′ = t′} {ts = ts} {ts′ = ts′} i j e h g) = both-uses t t′ ts ts′ k i j e (turned-uses h) (rows-uses g)
 
--- a target name stays one: neither a name nor what takes its place is one
-specific : (v : ℕ) (n : Node) → isSpecificId v n ≡ true → (n .kind ≡ 4) × (n .label ≡ v)
-unfolding isSpecificId
-specific v n e = let (p, q) = and-true (is 4 n) (eqb (n .label) v) e in (eqb-true (n .kind) 4 p, eqb-true (n .label) v q)
-
 not-target : (kind : ℕ) → isExpression kind ≡ true → eqb kind 29 ≡ false
 unfolding isExpression
 not-target kind e = ne-eqb kind 29 (λ q. by-or (ltb kind 25) (eqb kind 28) (λ g. clash (ltb 29 25) refl (rw q at g)) (λ g. clash (eqb 29 28) refl (rw q at g)) e)
@@ -166,21 +160,17 @@ module _ (v : ℕ) (r : Tree) (fit : isExpression (root r .kind) ≡ true) where
     pub turned-targets : {k : ℕ} {t u : Tree} → Turned v r k t u → targets a u ≤ targets a t + times k (targets a r)
     turned-targets {k = k} h = let x = turned-uses v r (λ n ts. targetName n) a 0 target-moved (λ k n ts ts′ g. clear-target n) target-bare (λ n ts e. omega arith) h in omega (arith, x)
 
--- what was placed stood for a read
-name-read : (v : ℕ) (n : Node) (ts : Trees) → isSpecificId v n ≡ true → 1 ≤ reads v (node n ts)
-unfolding usesIn nameRead
-name-read v n ts e = let (p, q) = specific v n e in let z : _≡_ {A = ℕ} (cond (eqb (nameRead n ts) v) 1 0) 1 = rw (p, q, eq-eqb v v refl) in omega arith
-
 root-read : (v : ℕ) (t : Tree) → isSpecificId v (root t) ≡ true → 1 ≤ reads v t
-root-read v (node n ts) e = name-read v n ts e
+root-read v (node n ts) e = specific-read v n ts e
 
 module _ (v : ℕ) (r : Tree) where
   mutual
     unfolding usesIn
 
+    -- as often as r was placed, v was read
     pub found : {k : ℕ} {t u : Tree} → Turned v r k t u → k ≤ reads v t
     found (same e p) = omega arith
-    found (here {n = n} {ts = ts} e g p) = let x = name-read v n ts g in omega (arith, x)
+    found (here {n = n} {ts = ts} e g p) = let x = specific-read v n ts g in omega (arith, x)
     found (apart {t = t} t′ e g h p) = let x = root-read v t g in omega (arith, x)
     found (under ts′ h p) = let x = found-all h in omega (arith, x)
 

@@ -1,11 +1,10 @@
 -- What holds at the end of a run: an invariant of the steps is an invariant of the run.
-use Prim.Native.Nat.{ℕ}
 use mathlib.Core.Bool.{Bool, true, false, cond}
 use mathlib.Core.List.{List, [], _∷_}
 use mathlib.Core.Path.{_≡_, refl}
 use Rattle.records.specs.Tree.{Node, Tree, Trees, node, none, more}
 use Rattle.records.specs.declared.layout.NameFacts.{NameFacts}
-use Rattle.runs.specs.Hand.{Beside, nothing, Given, only}
+use Rattle.runs.specs.Hand.{Beside, nothing, Given}
 use Rattle.runs.specs.Step.{Role, value, Step}
 use Rattle.runs.specs.Meaning.{Meaning}
 use Rattle.runs.specs.Form.{cleared, Choice, never, logical, conditional, optionally, Form, form, childless, isChain, choiceOf, firstRole, originOf}
@@ -109,6 +108,7 @@ module _ {Value Rest : Type 0} (names : List NameFacts) (m : Meaning Value Rest)
     mutual
       unfolding run runNode inTurn
 
+      -- what every step of a tree's nodes keeps, its run keeps
       pub ends : (t : Tree) → H t → (role : Role) (s : State Value Rest) → P s → Given-ends (run names m t role s)
       ends (node n ts) h role s p = ends-bind (gathered-ends (form (cleared n)) _ s p (ends-children ts (form (cleared n)) (cleared n) role (kids n ts h) s p)) (λ hs s′ g. finished-ends n ts role hs s′ h (g .0) (g .1))
 

@@ -1,34 +1,31 @@
--- A fold made on the way: what it is given, that it keeps the run, and that the program behind it is as fine as the one before.
-use Prim.Native.Nat.{ℕ, _+_, _≤_}
+-- A fold made on the way keeps the run, and leaves a program as fine as the one before.
+use Prim.Native.Nat.{ℕ, _≤_}
 use native.Mathlib.Omega.{arith}
-use mathlib.Core.Bool.{Bool, true, false, cond, _&&_, _||_, not}
-use mathlib.Core.List.{List, [], _∷_, _++_}
-use mathlib.Core.Path.{_≡_, refl, sym, ap, _∙_, subst}
+use mathlib.Core.Bool.{Bool, true, false, _&&_}
+use mathlib.Core.List.{List}
+use mathlib.Core.Path.{_≡_, refl, sym, ap, _∙_}
 use lib.Dec.{eqb}
-use borrow.Author.Tests.{eqb-true, eq-eqb, ne-eqb, eqb-false}
+use borrow.Author.Tests.{eq-eqb, ne-eqb, eqb-false}
 use Rattle.records.specs.Flags.{recorded, isEval}
 use Rattle.records.specs.Limits.{noNumber}
 use Rattle.records.specs.Script.{flagsOf}
-use Rattle.records.specs.Tree.{Node, Tree, Trees}
-use Rattle.records.specs.Place.{root, isExpression, placed, loose}
+use Rattle.records.specs.Tree.{Tree}
+use Rattle.records.specs.Place.{root}
 use Rattle.records.specs.Count.{nameRead, targetName, readsOf, targetsOf}
-use Rattle.records.specs.File.{one, DeclarationKind, Initializer, bare, given, Declarator, Statement, declaration, File, allTrees}
+use Rattle.records.specs.File.{one, given, Statement, File, allTrees}
 use Rattle.records.specs.declared.layout.NameFacts.{NameFacts}
 use Rattle.walk.specs.Context.{contextOf}
-use Rattle.walk.specs.Substitute.{replaced, substituteInExpression}
 use Rattle.statements.specs.Trace.{Fold}
 use Rattle.runs.specs.Store.{Store}
 use Rattle.runs.specs.Meaning.{Meaning}
-use Rattle.runs.specs.State.{State, Out, gave}
 use Rattle.runs.specs.Run.{resolved}
-use Rattle.runs.specs.Script.{isPattern, runStatements, begin}
-use Rattle.runs.specs.Settled.{factsOf, settled, thisBlocks}
-use Rattle.runs.specs.Shapes.{someIn, declared, evalWhole}
+use Rattle.runs.specs.Script.{runStatements, begin}
+use Rattle.runs.specs.Settled.{factsOf, settled}
+use Rattle.runs.specs.Shapes.{declared, evalWhole}
 use Rattle.runs.specs.Facts.{readsStand, writesStand, thisUnblocked, Facts, FoldKeeps}
 use Rattle.preservation.proofs.Words.{blinds}
-use Rattle.preservation.proofs.Tables.{and-true, by-or, clash}
+use Rattle.preservation.proofs.Tests.{by-or, one-on, one-off, one-none, one-of}
 use Rattle.preservation.proofs.Uses.{reads, targets}
-use Rattle.preservation.proofs.WellMade.{wellMade}
 use Rattle.preservation.proofs.Setting.{Setting}
 use Rattle.preservation.proofs.Frame.{shifted}
 use Rattle.preservation.proofs.Passing.{Put, drop}
@@ -36,24 +33,17 @@ use Rattle.preservation.proofs.Aims.{unblocked, ThisKnown}
 use Rattle.preservation.proofs.Sound.{Asked}
 use Rattle.preservation.proofs.Turned.{Turned, replaced-turned}
 use Rattle.preservation.proofs.Counts.{times, turned-reads, turned-targets, found}
-use Rattle.preservation.proofs.Fits.{placed-turned, loose-turned, expression-turned}
-use Rattle.preservation.proofs.Remade.{somewhere, well-turned, some-turned}
-use Rattle.preservation.proofs.Places.{Place, declaratorsAt, statementsAt, FreeBehind, fold-program}
+use Rattle.preservation.proofs.Places.{FreeBehind, fold-program}
 use Rattle.preservation.proofs.Moves.{FoldAt}
-use Rattle.preservation.proofs.Totals.{weighed, ofInitializer, totalOf, total, there, around, site-total, fold-total, there-tree, there-declared, trees, declarations, program-uses}
-use Rattle.preservation.proofs.FineKept.{one-none, fit-turned, eval-turned, eval-there, misfit-none}
-use Rattle.preservation.proofs.Fine.{fit, misfit, evals, unblockedTrees, Accepted, Fine, one-on, one-off, fit-parts, fit-whole, free-behind, declared-found, searched-name}
+use Rattle.preservation.proofs.Totals.{ofInitializer, there, there-declared, declarations, program-uses, declaring}
+use Rattle.preservation.proofs.Fine.{unblockedTrees, Accepted, Fine, searched-name, unblockedAt}
+use Rattle.preservation.proofs.Fit.{fit, misfit, fit-parts, fit-turned, eval-turned, eval-there, misfit-none}
+use Rattle.preservation.proofs.Declared.{free-behind, declared-found}
+use Rattle.preservation.proofs.Positions.{somewhere, some-turned}
+use Rattle.preservation.proofs.Sums.{fold-rest, fold-before, fold-behind, fold-trees-before, fold-trees-behind, fold-declared}
 
 other-way : (a b : ℕ) → eqb a b ≡ false → eqb b a ≡ false
 other-way a b e = ne-eqb b a (λ q. eqb-false a b e (sym q))
-
-one-of : (b : Bool) → b ≡ true → 1 ≤ one b
-one-of true e = omega arith
-one-of false e = clash false refl e
-
-one-in : (b : Bool) → 1 ≤ one b → b ≡ true
-one-in true h = refl
-one-in false h = absurd (omega arith)
 
 module _ (f : File) (P Q : List Statement) (φ : Fold) (move : FoldAt (contextOf f) P Q φ) (accepted : Accepted f) (fine : Fine f P) where
   abbrev names : List NameFacts
@@ -71,29 +61,6 @@ module _ (f : File) (P Q : List Statement) (φ : Fold) (move : FoldAt (contextOf
   abbrev t′ : Tree
   t′ = move .tree
 
-  -- the sums of the program, with the parts that the fold touches
-  abbrev rest : (Declarator → ℕ) → (Tree → ℕ) → ℕ
-  rest wd we = total wd we (move .before) + totalOf wd we (move .earlier) + around wd we (move .place) (move .after)
-
-  sum-before : (wd : Declarator → ℕ) (we : Tree → ℕ) → total wd we P ≡ rest wd we + there wd we (move .place) t + wd (record { name = v; initializer = given r })
-  sum-before wd we = ap (total wd we) (move .from) ∙ fold-total wd we (move .before) (move .kind) (move .earlier) (record { name = v; initializer = given r }) (move .place) t (move .after)
-
-  sum-behind : (wd : Declarator → ℕ) (we : Tree → ℕ) → total wd we Q ≡ rest wd we + there wd we (move .place) t′
-  sum-behind wd we = ap (total wd we) (move .into) ∙ site-total wd we (move .before) (move .kind) (move .earlier) (move .place) t′ (move .after)
-
-  abbrev around-trees : (Tree → ℕ) → ℕ
-  around-trees w = rest (ofInitializer w) w
-
-  given-weight : (w : Tree → ℕ) → weighed w (given r) ≡ w r
-  unfolding weighed
-  given-weight w = refl
-
-  trees-before : (w : Tree → ℕ) → trees w P ≡ around-trees w + w t + w r
-  trees-before w = let a = sum-before (ofInitializer w) w in let b = there-tree w (move .place) t in let c = given-weight w in omega (arith, a, b, c)
-
-  trees-behind : (w : Tree → ℕ) → trees w Q ≡ around-trees w + w t′
-  trees-behind w = let a = sum-behind (ofInitializer w) w in let b = there-tree w (move .place) t′ in omega (arith, a, b)
-
   -- what the search says
   turned : Turned v r 1 t t′
   turned = replaced-turned (contextOf f) v r t t′ (move .placed)
@@ -103,7 +70,7 @@ module _ (f : File) (P Q : List Statement) (φ : Fold) (move : FoldAt (contextOf
 
   declared-here : 1 ≤ declarations v P
   declared-here =
-      let a = sum-before (λ d. one (eqb (d .name) v)) (λ t. 0) in
+      let a = fold-before move (declaring v) (λ t. 0) in
       let b : _≡_ {A = ℕ} (one (eqb v v)) 1 = rw (eq-eqb v v refl) in
       omega (arith, a, b)
 
@@ -120,15 +87,15 @@ module _ (f : File) (P Q : List Statement) (φ : Fold) (move : FoldAt (contextOf
   read-once = found v r turned
 
   -- the one read stands in t; v is no target anywhere
-  numbers : (reads v t ≡ 1) × (reads v r ≡ 0) × (around-trees (reads v) ≡ 0) × (readsOf v (allTrees (f .statements)) ≡ factsOf f v .reads) × (targets v t ≡ 0) × (targets v r ≡ 0) × (around-trees (targets v) ≡ 0) × (targetsOf v (allTrees (f .statements)) ≡ factsOf f v .writes)
+  numbers : (reads v t ≡ 1) × (reads v r ≡ 0) × (fold-rest move (ofInitializer (reads v)) (reads v) ≡ 0) × (readsOf v (allTrees (f .statements)) ≡ factsOf f v .reads) × (targets v t ≡ 0) × (targets v r ≡ 0) × (fold-rest move (ofInitializer (targets v)) (targets v) ≡ 0) × (targetsOf v (allTrees (f .statements)) ≡ factsOf f v .writes)
   numbers =
       let (e, g, h, i) = asked-name in
       let (b, c) = within-counts in
       let x = read-once in
       let k = fine .reads-in v (other-way v noNumber e) in
       let l = fine .targets-in v (other-way v noNumber e) in
-      let a = trees-before (reads v) in
-      let d = trees-before (targets v) in
+      let a = fold-trees-before move (reads v) in
+      let d = fold-trees-before move (targets v) in
       let p = program-uses nameRead v (f .statements) in
       let q = program-uses (λ n kids. targetName n) v (f .statements) in
       (omega (arith, h, b, x, k, a, p), omega (arith, h, b, x, k, a, p), omega (arith, h, b, x, k, a, p), omega (arith, h, b, x, k, a, p), omega (arith, i, c, l, d, q), omega (arith, i, c, l, d, q), omega (arith, i, c, l, d, q), omega (arith, i, c, l, d, q))
@@ -142,10 +109,10 @@ module _ (f : File) (P Q : List Statement) (φ : Fold) (move : FoldAt (contextOf
   writes-stand = rw (declared-there, asked-name .1, eq-eqb (targetsOf v (allTrees (f .statements))) (factsOf f v .writes) (numbers .7))
 
   fits-here : (fit names t ≡ true) × (fit names r ≡ true)
-  fits-here = let a = fine .fits in let b = trees-before (misfit names) in (one-off (fit names t) (omega (arith, a, b)), one-off (fit names r) (omega (arith, a, b)))
+  fits-here = let a = fine .fits in let b = fold-trees-before move (misfit names) in (one-off (fit names t) (omega (arith, a, b)), one-off (fit names r) (omega (arith, a, b)))
 
   eval-here : evalWhole names (given r) ≡ false
-  eval-here = let a = fine .no-evals in let b = sum-before (λ d. one (evalWhole names (d .initializer))) (λ t. 0) in one-on (evalWhole names (given r)) (omega (arith, a, b))
+  eval-here = let a = fine .no-evals in let b = fold-before move (λ d. one (evalWhole names (d .initializer))) (λ t. 0) in one-on (evalWhole names (given r)) (omega (arith, a, b))
 
   no-eval-here : (eqb (root r .kind) 4 && isEval (flagsOf names (root r .label))) ≡ false
   no-eval-here = unfold evalWhole in eval-here
@@ -154,7 +121,7 @@ module _ (f : File) (P Q : List Statement) (φ : Fold) (move : FoldAt (contextOf
   apart-here a e =
       let (x, y) = accepted .settled-unaimed a e in
       let b = fine .targets-in a x in
-      let c = trees-before (targets a) in
+      let c = fold-trees-before move (targets a) in
       let d = program-uses (λ n kids. targetName n) a (f .statements) in
       omega (arith, y, b, c, d)
 
@@ -180,7 +147,7 @@ module _ (f : File) (P Q : List Statement) (φ : Fold) (move : FoldAt (contextOf
     }
 
     this-known : ThisKnown setting t
-    this-known e = fine .this-in (let a = trees-before (λ t. one (somewhere (λ p. not (thisBlocks f p)) t)) in let b = one-of (somewhere (λ p. not (thisBlocks f p)) t) (unfold unblocked in e) in omega (arith, a, b))
+    this-known e = fine .this-in (let a = fold-trees-before move (λ t. one (somewhere (unblockedAt f) t)) in let b = one-of (somewhere (unblockedAt f) t) (unfold unblocked in e) in omega (arith, a, b))
 
     asked : Asked setting t
     asked = (let a = numbers .0 in omega (arith, a), numbers .4, fit-parts names t (fits-here .0) .0, fit-parts names t (fits-here .0) .1, this-known)
@@ -191,7 +158,7 @@ module _ (f : File) (P Q : List Statement) (φ : Fold) (move : FoldAt (contextOf
         let b = numbers .6 in
         let c = accepted .once v (asked-name .0) in
         let d = fine .declared-in v in
-        let e = sum-before (λ d. one (eqb (d .name) v)) (λ t. 0) in
+        let e = fold-before move (declaring v) (λ t. 0) in
         let g : _≡_ {A = ℕ} (one (eqb v v)) 1 = rw (eq-eqb v v refl) in
         free-behind v (move .place) t (move .after) (omega (arith, a)) (omega (arith, b)) (omega (arith, c, d, e, g))
 
@@ -207,53 +174,46 @@ module _ (f : File) (P Q : List Statement) (φ : Fold) (move : FoldAt (contextOf
     fold-kept keeps = kept-here keeps
 
   -- The program behind the fold.
-  abbrev open-at : ℕ → Bool
-  open-at p = not (thisBlocks f p)
-
   one-time : (c : ℕ) → times 1 c ≡ c
   unfolding times
   one-time c = omega arith
 
-  fold-this : (b : Bool) → somewhere open-at t′ ≡ b → 1 ≤ unblockedTrees f Q → thisUnblocked f ≡ true
+  fold-this : (b : Bool) → somewhere (unblockedAt f) t′ ≡ b → 1 ≤ unblockedTrees f Q → thisUnblocked f ≡ true
   fold-this true e h =
-      let a = trees-before (λ t. one (somewhere open-at t)) in
-      by-or (somewhere open-at t) (somewhere open-at r) (λ g. fine .this-in (let d = one-of (somewhere open-at t) g in omega (arith, a, d))) (λ g. fine .this-in (let d = one-of (somewhere open-at r) g in omega (arith, a, d))) (some-turned open-at turned e)
+      let a = fold-trees-before move (λ t. one (somewhere (unblockedAt f) t)) in
+      by-or (somewhere (unblockedAt f) t) (somewhere (unblockedAt f) r) (λ g. fine .this-in (let d = one-of (somewhere (unblockedAt f) t) g in omega (arith, a, d))) (λ g. fine .this-in (let d = one-of (somewhere (unblockedAt f) r) g in omega (arith, a, d))) (some-turned (unblockedAt f) turned e)
   fold-this false e h =
-      fine .this-in (let a = trees-before (λ t. one (somewhere open-at t)) in let d = trees-behind (λ t. one (somewhere open-at t)) in let k = one-none (somewhere open-at t′) e in omega (arith, a, d, k, h))
+      fine .this-in (let a = fold-trees-before move (λ t. one (somewhere (unblockedAt f) t)) in let d = fold-trees-behind move (λ t. one (somewhere (unblockedAt f) t)) in let k = one-none (somewhere (unblockedAt f) t′) e in omega (arith, a, d, k, h))
 
+  -- it is as fine
   pub fold-fine : Fine f Q
   fold-fine = record {
     fits =
         let a = fine .fits in
-        let b = trees-before (misfit names) in
-        let c = trees-behind (misfit names) in
+        let b = fold-trees-before move (misfit names) in
+        let c = fold-trees-behind move (misfit names) in
         let d = misfit-none names t′ (fit-turned names v r (fits-here .1) turned (fits-here .0)) in
         omega (arith, a, b, c, d);
     reads-in = λ a e.
         let b = fine .reads-in a e in
-        let c = trees-before (reads a) in
-        let d = trees-behind (reads a) in
+        let c = fold-trees-before move (reads a) in
+        let d = fold-trees-behind move (reads a) in
         let g = turned-reads v r (fit-parts names r (fits-here .1) .2) a e turned in
         let h = one-time (reads a r) in
         omega (arith, b, c, d, g, h);
     targets-in = λ a e.
         let b = fine .targets-in a e in
-        let c = trees-before (targets a) in
-        let d = trees-behind (targets a) in
+        let c = fold-trees-before move (targets a) in
+        let d = fold-trees-behind move (targets a) in
         let g = turned-targets v r (fit-parts names r (fits-here .1) .2) a e turned in
         let h = one-time (targets a r) in
         omega (arith, b, c, d, g, h);
-    declared-in = λ a.
-        let b = fine .declared-in a in
-        let c = sum-before (λ d. one (eqb (d .name) a)) (λ t. 0) in
-        let d = sum-behind (λ d. one (eqb (d .name) a)) (λ t. 0) in
-        let e = there-declared a (move .place) t t′ in
-        omega (arith, b, c, d, e);
-    this-in = λ h. fold-this (somewhere open-at t′) refl h;
+    declared-in = λ a. let b = fine .declared-in a in let c = fold-declared move a in omega (arith, b, c);
+    this-in = λ h. fold-this (somewhere (unblockedAt f) t′) refl h;
     no-evals =
         let a = fine .no-evals in
-        let b = sum-before (λ d. one (evalWhole names (d .initializer))) (λ t. 0) in
-        let c = sum-behind (λ d. one (evalWhole names (d .initializer))) (λ t. 0) in
+        let b = fold-before move (λ d. one (evalWhole names (d .initializer))) (λ t. 0) in
+        let c = fold-behind move (λ d. one (evalWhole names (d .initializer))) (λ t. 0) in
         let e = eval-there names (move .place) t t′ (λ g. eval-turned names v r (fits-here .1) turned eval-here g) (omega (arith, a, b)) in
         omega (arith, a, b, c, e);
   }
@@ -263,8 +223,8 @@ module _ (f : File) (P Q : List Statement) (φ : Fold) (move : FoldAt (contextOf
   gone =
       let c = accepted .once v (asked-name .0) in
       let d = fine .declared-in v in
-      let e = sum-before (λ d. one (eqb (d .name) v)) (λ t. 0) in
+      let e = fold-before move (declaring v) (λ t. 0) in
       let g : _≡_ {A = ℕ} (one (eqb v v)) 1 = rw (eq-eqb v v refl) in
-      let h = sum-behind (λ d. one (eqb (d .name) v)) (λ t. 0) in
+      let h = fold-behind move (declaring v) (λ t. 0) in
       let i = there-declared v (move .place) t t′ in
       omega (arith, c, d, e, g, h, i)

@@ -1,25 +1,25 @@
 -- What a run does to a part of the state that it doesn't look at: nothing.
-use Prim.Native.Nat.{ℕ, _+_}
+use Prim.Native.Nat.{ℕ}
 use native.Mathlib.Omega.{arith}
 use mathlib.Core.Bool.{Bool, true, false, cond, _&&_}
 use mathlib.Core.List.{List, [], _∷_}
-use mathlib.Core.Path.{_≡_, refl, sym, ap, _∙_}
+use mathlib.Core.Path.{_≡_, refl, sym}
 use lib.Dec.{eqb}
 use Rattle.records.specs.Tree.{Node, Tree, Trees, node, none, more}
-use Rattle.records.specs.Count.{nameRead, usesIn}
+use Rattle.records.specs.Count.{usesIn}
 use Rattle.records.specs.declared.layout.NameFacts.{NameFacts}
 use Rattle.runs.specs.Store.{Store}
-use Rattle.runs.specs.Hand.{Beside, Given, only}
+use Rattle.runs.specs.Hand.{Given}
 use Rattle.runs.specs.Step.{Role, value, Step}
 use Rattle.runs.specs.Meaning.{Act, done, stops, Meaning}
-use Rattle.runs.specs.Form.{is, cleared, isMarked, Choice, never, logical, conditional, optionally, Form, constant, name, targetName, leaf, chain, property, importing, sequence, assignment, stepping, form, childless, isChain, choiceOf, firstRole, originOf}
+use Rattle.runs.specs.Form.{is, cleared, isMarked, Choice, never, logical, conditional, optionally, Form, constant, name, targetName, leaf, chain, property, importing, sequence, assignment, stepping, form, childless, isChain, choiceOf, firstRole}
 use Rattle.runs.specs.State.{Log, State, Out, gave, cut, stop, bind}
 use Rattle.runs.specs.Run.{Turn, all, skipped, second, third, takes, then, resolved, isRead, kept, listed, acted, caught, gathered, chosen, inTurn, stepped, queued, held, goesOn, own, beside, finished, runNode, run, runChildren, runOthers}
-use Rattle.runs.specs.Facts.{through, aims}
+use Rattle.runs.specs.Facts.{through}
 use Rattle.preservation.proofs.Words.{within}
 use Rattle.preservation.proofs.Tables.{kindsOf, kinds}
 use Rattle.preservation.proofs.Ends.{Ends, gives, cuts, halts, First, stepOf, gathered-ends}
-use Rattle.preservation.proofs.Uses.{reads, allReads, targets, allTargets, Off, kept-off, nothing-off, first-off, off-read, off-target, off-through, gives-off, hand-off}
+use Rattle.preservation.proofs.Uses.{reads, allReads, targets, allTargets, Off, kept-off, first-off, off-read, off-target, off-through, gives-off, hand-off}
 
 -- a change of the state
 pub record Shift (Value Rest : Type 0) : Type 0 where
@@ -139,6 +139,7 @@ module _ {Value Rest : Type 0} (names : List NameFacts) (m : Meaning Value Rest)
   mutual
     unfolding run runNode usesIn
 
+    -- a tree that doesn't use v, run in the changed state, comes out as before, with the state changed
     pub frame : (t : Tree) → reads v t ≡ 0 → targets v t ≡ 0 → (role : Role) (s : State Value Rest) → run names m t role (moved φ s) ≡ shifted φ (run names m t role s)
     frame (node n ts) h g role s =
         rw (frame-children ts (form (cleared n)) (cleared n) role (off-read v n ts h) (off-target v n ts g) (omega arith) (omega arith) s, gathered-on φ (form (cleared n)) (runChildren names m ts (form (cleared n)) (cleared n) role s) s)

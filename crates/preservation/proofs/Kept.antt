@@ -1,11 +1,11 @@
--- Trees without an effect change nothing; what no step changes is kept by every run; what cuts a chain short stands under it.
+-- Trees without an effect change nothing; what no step changes is kept by every run; only a chain is cut short.
 use Prim.Native.Nat.{ℕ, _+_}
 use native.Mathlib.Omega.{arith}
 use mathlib.Core.Bool.{Bool, true, false, cond, _&&_, _||_, not}
-use mathlib.Core.List.{List, [], _∷_}
-use mathlib.Core.Path.{_≡_, refl, sym, ap, _∙_}
+use mathlib.Core.List.{List, []}
+use mathlib.Core.Path.{_≡_, refl, sym, _∙_}
 use lib.Dec.{eqb}
-use borrow.Author.Tests.{eqb-true, eqb-false, eq-eqb, ne-eqb}
+use borrow.Author.Tests.{eqb-true, ne-eqb}
 use Rattle.records.specs.Flags.{marked, optional}
 use Rattle.records.specs.Node.{isLink}
 use Rattle.records.specs.Tree.{Node, Tree, Trees, node, none, more}
@@ -13,15 +13,16 @@ use Rattle.records.specs.Place.{root, mayStand, chains, loose, looseFirst, mayB
 use Rattle.records.specs.declared.layout.NameFacts.{NameFacts}
 use Rattle.walk.specs.Effect.{hasEffect, mayHaveSideEffects, anyHasSideEffects}
 use Rattle.runs.specs.Store.{Store}
-use Rattle.runs.specs.Hand.{Beside, nothing, Given, only}
-use Rattle.runs.specs.Step.{Role, value, Origin, Step}
+use Rattle.runs.specs.Hand.{Given}
+use Rattle.runs.specs.Step.{Role, value, Step}
 use Rattle.runs.specs.Meaning.{Act, done, stops, Meaning}
 use Rattle.runs.specs.Form.{is, cleared, isMarked, Choice, never, logical, conditional, optionally, Form, constant, name, targetName, leaf, chain, property, importing, sequence, assignment, stepping, form, order, childless, isChain, choiceOf, firstRole, originOf}
-use Rattle.runs.specs.State.{Log, State, Out, gave, cut, stop, bind}
-use Rattle.runs.specs.Run.{Turn, all, skipped, second, third, takes, then, resolved, isRead, kept, listed, acted, caught, gathered, chosen, inTurn, stepped, queued, held, goesOn, own, beside, finished, runNode, run, runChildren, runOthers}
+use Rattle.runs.specs.State.{Log, State, Out, gave, cut, stop}
+use Rattle.runs.specs.Run.{Turn, all, skipped, second, third, takes, then, resolved, acted, caught, gathered, chosen, inTurn, stepped, queued, held, goesOn, own, finished, runNode, run, runChildren, runOthers}
 use Rattle.runs.specs.Facts.{through, isOfNode}
-use Rattle.preservation.proofs.Tables.{and-true, or-none, not-on, clash, kindsOf, kinds, marked-cleared}
-use Rattle.preservation.proofs.Ends.{Ends, gives, cuts, halts, ends-bind, ends-cond, ends-any, ends-map, First, stepOf, Given-ends, Hand-ends, ends, ends-children}
+use Rattle.preservation.proofs.Tests.{and-true, or-none, clash}
+use Rattle.preservation.proofs.Tables.{kindsOf, kinds, marked-cleared, link-cleared, name-form}
+use Rattle.preservation.proofs.Ends.{Ends, gives, halts, ends-bind, ends-cond, ends-map, First, stepOf, ends, ends-children}
 use Rattle.preservation.proofs.Uses.{targets, allTargets, Off, nothing-off, kept-off, first-off, off-target, off-through, aside-off, kids-targets, head-targets, tail-targets}
 
 -- Without an effect.
@@ -77,6 +78,7 @@ module _ {Value Rest : Type 0} (names : List NameFacts) (m : Meaning Value Rest)
       let (x, y, z) = unmarked n (or-none (hasEffect n) (anyHasSideEffects ts) e .0) in
       own-still (form (cleared n)) (cleared n) role _ s (kinds (cleared n)) x y z p
 
+  -- a tree without effects leaves the state as it is, and doesn't stop
   pub still : (t : Tree) → mayHaveSideEffects t ≡ false → (role : Role) → Still (run names m t role s₀)
   still t e role =
       ends-map (ends names m (λ b. Unit {0}) (λ s. s ≡ s₀) ⊥ (λ t. mayHaveSideEffects t ≡ false) (λ ts. anyHasSideEffects ts ≡ false) kids-still head-still tail-still tt (λ f n b u. tt) (λ n ts hs h u. tt) step-still t e role s₀ refl)
@@ -121,10 +123,6 @@ module _ {Value Rest : Type 0} (names : List NameFacts) (m : Meaning Value Rest)
   own-keeps (assignment c) n role x s i e p = stepped-keeps true x s i e p
   own-keeps (stepping c) n role x s i e p = stepped-keeps (isMarked n) x s i e p
 
-  name-form : (n : Node) → is 4 n ≡ true → form n ≡ name
-  unfolding form
-  name-form n e = rw (eqb-true (n .kind) 4 e)
-
   -- a name makes a step only if it isn't resolved, so that it is another one
   name-keeps : (t : Bool) (n : Node) (role : Role) (hs : List (Given Value)) (s : State Value Rest) → resolved names (n .label) ≡ t → isOfNode (originOf n role) ≡ true → (eqb (n .label) a ≡ false → through a (stepOf n role hs) ≡ false) → K (s .store) → Keeps (held m t n (stepOf n role hs) s)
   name-keeps true n role hs s e i h p = unfold held in gives p
@@ -144,6 +142,7 @@ module _ {Value Rest : Type 0} (names : List NameFacts) (m : Meaning Value Rest)
   step-keeps : (n : Node) (ts : Trees) (role : Role) (hs : List (Given Value)) (s : State Value Rest) → targets a (node n ts) ≡ 0 → First (Off a) hs → K (s .store) → Keeps (own names m (form (cleared n)) (cleared n) role (stepOf (cleared n) role hs) s)
   step-keeps n ts role hs s h g p = node-keeps (is 4 (cleared n)) (cleared n) role hs s refl (of-node (cleared n) role) (off-target a n ts h) g p
 
+  -- what node steps keep of the store, but those through a, the run of a tree keeps in which a is no target
   pub kept-by : (t : Tree) → targets a t ≡ 0 → (role : Role) (s : State Value Rest) → K (s .store) → Keeps (run names m t role s)
   kept-by t h role s p =
       ends-map (ends names m (Off a) (λ s. K (s .store)) (Unit {0}) (λ t. targets a t ≡ 0) (λ ts. allTargets a ts ≡ 0) (kids-targets a) (head-targets a) (tail-targets a) (nothing-off a) (kept-off a) (aside-off names m a) step-keeps t h role s p)
@@ -153,6 +152,10 @@ module _ {Value Rest : Type 0} (names : List NameFacts) (m : Meaning Value Rest)
 pub under : (n : Node) (ts : Trees) → placed (node n ts) ≡ true → (standUnder n 0 ts ≡ true) × (allPlaced ts ≡ true)
 unfolding placed
 under n ts h = and-true (standUnder n 0 ts) (allPlaced ts) h
+
+pub in-row : (t : Tree) (ts : Trees) → allPlaced (more t ts) ≡ true → (placed t ≡ true) × (allPlaced ts ≡ true)
+unfolding placed
+in-row t ts h = and-true (placed t) (allPlaced ts) h
 
 pub stands : (p : Node) (i : ℕ) (t : Tree) (ts : Trees) → standUnder p i (more t ts) ≡ true → (mayStand (p .kind) (p .flags) i (root t .kind) ≡ true) × ((not (loose t) || mayBeLoose (p .kind) i) ≡ true) × (standUnder p (i + 1) ts ≡ true)
 unfolding standUnder
@@ -246,13 +249,6 @@ module _ {Value Rest : Type 0} (names : List NameFacts) (m : Meaning Value Rest)
   uncut-by (stepping conditional) n k e = refl
   uncut-by (stepping optionally) n k e = clash _ e k
 
-  link-flags : (n : Node) → (isLink (n .kind) && optional (cleared n .flags)) ≡ (isLink (n .kind) && optional (n .flags))
-  link-flags n = by (is 26 n) refl
-    where
-      by : (b : Bool) → is 26 n ≡ b → (isLink (n .kind) && optional (cleared n .flags)) ≡ (isLink (n .kind) && optional (n .flags))
-      by true e = rw (eqb-true (n .kind) 26 e)
-      by false e = unfold cleared in rw e
-
   left-of : (x y z : Bool) → (x && (y || z)) ≡ false → (x && y) ≡ false
   left-of true true z e = e
   left-of true false z e = refl
@@ -260,7 +256,7 @@ module _ {Value Rest : Type 0} (names : List NameFacts) (m : Meaning Value Rest)
 
   uncut : (n : Node) (ts : Trees) → loose (node n ts) ≡ false → cutting (choiceOf (form (cleared n))) ≡ false
   unfolding loose
-  uncut n ts e = uncut-by (form (cleared n)) (cleared n) (kinds (cleared n)) (unfold cleared in (link-flags n ∙ left-of (isLink (n .kind)) (optional (n .flags)) (looseFirst ts) e))
+  uncut n ts e = uncut-by (form (cleared n)) (cleared n) (kinds (cleared n)) (unfold cleared in (link-cleared n ∙ left-of (isLink (n .kind)) (optional (n .flags)) (looseFirst ts) e))
 
   chain-form : (n : Node) → is 13 n ≡ true → isChain (form n) ≡ true
   unfolding form isChain order
@@ -311,6 +307,7 @@ module _ {Value Rest : Type 0} (names : List NameFacts) (m : Meaning Value Rest)
   mutual
     unfolding run runNode gathered inTurn
 
+    -- a tree that stands well, and isn't loose, is never cut short
     pub whole : (t : Tree) → placed t ≡ true → loose t ≡ false → (role : Role) (s : State Value Rest) → Whole (run names m t role s)
     whole (node n ts) h g role s =
         let (a, b) = under n ts h in

@@ -1,33 +1,43 @@
--- One fold of a single-use name keeps the run of a script.
+-- The fold of a single-use name keeps the run of a script: of one tree (OneFold), and of a whole file (Whole).
+pub mod Tests
+-- runs: what they keep, and what they don't look at
 pub mod Words
 pub mod Ends
 pub mod Tables
 pub mod Uses
 pub mod Frame
 pub mod Kept
-pub mod Setting
-pub mod Passing
 pub mod Same
-pub mod WellMade
-pub mod Open
 pub mod At
 pub mod Bare
+-- one fold of a tree
+pub mod Setting
+pub mod Passing
+pub mod WellMade
+pub mod Open
 pub mod Placing
 pub mod Children
 pub mod Nodes
 pub mod Aims
 pub mod Sound
 pub mod OneFold
+-- what a search makes of a tree
 pub mod Turned
 pub mod Stopped
 pub mod Counts
-pub mod Fits
+pub mod Standing
 pub mod Remade
+pub mod Positions
+-- one fold in a program
 pub mod Program
 pub mod Site
 pub mod Places
+-- all folds of a file
 pub mod Moves
 pub mod Totals
+pub mod Sums
+pub mod Declared
+pub mod Fit
 pub mod Fine
 pub mod FineKept
 pub mod FoldKept

@@ -3,7 +3,7 @@
 use Prim.Native.Nat.{ℕ, _+_}
 use mathlib.Core.Bool.{Bool, true, false, cond, _||_}
 use mathlib.Core.List.{List, [], _∷_, _++_, map, reverse, reverse-cons, reverse-reverse, append-assoc, append-nil, map-append}
-use mathlib.Core.Path.{_≡_, refl, sym, ap, ap₂, _∙_, subst}
+use mathlib.Core.Path.{_≡_, refl, sym, ap, _∙_, subst}
 use Rattle.records.specs.Tree.{Tree}
 use Rattle.records.specs.File.{DeclarationKind, Initializer, bare, given, Declarator, Statement, declaration, expression, other, File}
 use Rattle.walk.specs.Context.{Context, contextOf, nonScopedLiteralOnly}
@@ -11,8 +11,9 @@ use Rattle.walk.specs.Substitute.{Answer, replaced, stopped, passed, substitute
 use Rattle.walk.specs.Looks.{looksInExpression}
 use Rattle.statements.specs.Trace.{Fold, Traced, pure, _>>=_, looked, folded}
 use Rattle.statements.specs.Declarators.{isUnsearched, isUsing, endsSearch, Searched, withTree, foldOf, afterAnswer, fromDeclarator, substituteFromDeclarators, withinDeclarator, withinDeclarators, substituteWithinDeclaration}
-use Rattle.statements.specs.Fold.{Folded, foldedFile, withStatements, foldFile}
+use Rattle.statements.specs.Fold.{foldedFile, withStatements, foldFile}
 use Rattle.statements.specs.Statements.{Kept, statementOf, inFileOrder, afterDeclarators, fromStatement, fromStatements, substituteInStatement, inInitializer, inFirstDeclarator, foldStatement, foldStatements}
+use Rattle.preservation.proofs.Tests.{or-none}
 use Rattle.preservation.proofs.Places.{Place, declarator, statement, initializer, declaratorsAt, statementsAt}
 
 -- a program with a tree in a place
@@ -146,18 +147,10 @@ module _ (ctx : Context) where
   within-all before k after earlier [] u = done (ap (λ es. declared before k es after) (sym (append-nil (reverse earlier)))) refl
   within-all before k after earlier (d ∷ ds) u = then-moves (within-one before k after earlier d (d .initializer) ds u refl) (within-all before k after (withinDeclarator ctx before k earlier d (d .initializer) .result) ds u)
 
-  or-off : (x y : Bool) → (x || y) ≡ false → y ≡ false
-  or-off true y e = subst (λ b. y ≡ b) e (absurd-true y e)
-    where
-      absurd-true : (y : Bool) → true ≡ false → y ≡ true
-      absurd-true true e = refl
-      absurd-true false e = sym e
-  or-off false y e = e
-
   within-by : (before : List Statement) (k : DeclarationKind) (after : List Statement) (ds : List Declarator) (b : Bool) → (isUnsearched ctx || isUsing k) ≡ b
       → Moves (declared before k ds after) (declared before k (cond b (pure ds) (withinDeclarators ctx before k [] ds) .result) after) (cond b (pure ds) (withinDeclarators ctx before k [] ds) .trace)
   within-by before k after ds true e = unfold pure in done refl refl
-  within-by before k after ds false e = within-all before k after [] ds (or-off (isUnsearched ctx) (isUsing k) e)
+  within-by before k after ds false e = within-all before k after [] ds (or-none (isUnsearched ctx) (isUsing k) e .1)
 
   within-moves : (before : List Statement) (k : DeclarationKind) (after : List Statement) (ds : List Declarator) → Moves (declared before k ds after) (declared before k (substituteWithinDeclaration ctx before k ds .result) after) (substituteWithinDeclaration ctx before k ds .trace)
   unfolding substituteWithinDeclaration
@@ -255,6 +248,7 @@ module _ (ctx : Context) where
       (unfold statementsAt in in-statement statement after bare-statement earlier t)
   one-moves number earlier other after = done (in-order (record { number = number; statement = other }) earlier after) refl
 
+  -- statements in order, behind those that are done
   pub all-moves : (number : ℕ) (earlier : List Kept) (ss : List Statement) → Moves (inFileOrder earlier ++ ss) (map statementOf (foldStatements ctx number earlier ss .result)) (foldStatements ctx number earlier ss .trace)
   unfolding foldStatements pure _>>=_
   all-moves number earlier [] = done (sym (append-nil (inFileOrder earlier))) refl

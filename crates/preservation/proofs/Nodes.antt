@@ -1,41 +1,40 @@
 -- The answer at a node: the name itself, and a node whose children were searched.
-use Prim.Native.Nat.{ℕ, _+_, _≤_}
 use native.Mathlib.Omega.{arith}
-use mathlib.Core.Bool.{Bool, true, false, cond, _&&_, _||_, not}
-use mathlib.Core.List.{List, [], _∷_}
-use mathlib.Core.Path.{_≡_, refl, sym, ap, ap₂, _∙_, subst}
-use lib.Dec.{eqb}
-use borrow.Author.Tests.{eqb-true, eq-eqb}
-use Rattle.records.specs.Flags.{isEval}
-use Rattle.records.specs.Script.{flagsOf}
-use Rattle.records.specs.Tree.{Node, Tree, Trees, node, none, more}
+use mathlib.Core.Bool.{Bool, true, false, cond, _&&_}
+use mathlib.Core.List.{List, []}
+use mathlib.Core.Path.{_≡_, refl, sym, ap, _∙_, subst}
+use borrow.Author.Tests.{eq-eqb}
+use Rattle.records.specs.Tree.{Node, Tree, Trees, node}
 use Rattle.records.specs.Place.{root}
-use Rattle.records.specs.Count.{nameRead, usesIn}
+use Rattle.records.specs.Count.{usesIn}
 use Rattle.records.specs.declared.layout.NameFacts.{NameFacts}
 use Rattle.walk.specs.Shape.{shape, cleared as walked}
 use Rattle.walk.specs.Substitute.{Answer, replaced, stopped, passed, Plan, at, ofNode, isSpecificId, isMemberTag}
-use Rattle.runs.specs.Store.{set}
-use Rattle.runs.specs.Hand.{Beside, nothing, Given, only}
+use Rattle.runs.specs.Hand.{nothing, Given, only}
 use Rattle.runs.specs.Step.{Role, value}
-use Rattle.runs.specs.Meaning.{Meaning}
 use Rattle.runs.specs.Form.{is, cleared, Form, name, form, order, childless, isName, isChain}
-use Rattle.runs.specs.State.{State, Out, gave, cut, stop, bind}
-use Rattle.runs.specs.Run.{resolved, caught, gathered, held, own, beside, finished, runNode, run, runChildren}
+use Rattle.runs.specs.State.{State, Out, gave, bind}
+use Rattle.runs.specs.Run.{caught, gathered, held, own, beside, finished, runNode, run, runChildren}
 use Rattle.runs.specs.Facts.{TargetSame}
 use Rattle.preservation.proofs.Words.{set-here}
-use Rattle.preservation.proofs.Tables.{and-true, clash, kindsOf, kinds, formOf, form-shape, walked-cleared, cleared-once}
+use Rattle.preservation.proofs.Tests.{clash, same-cond}
+use Rattle.preservation.proofs.Tables.{kindsOf, kinds, formOf, form-shape, walked-cleared, cleared-once, name-form}
 use Rattle.preservation.proofs.Ends.{Ends, gives, cuts, halts, ends-map, ends-same, First}
-use Rattle.preservation.proofs.Uses.{reads, allReads, targets, allTargets, Off, hand-off}
+use Rattle.preservation.proofs.Uses.{reads, allTargets, Off, hand-off, specific, specific-read}
 use Rattle.preservation.proofs.Frame.{moved, shifted, gave-on, caught-on, finished-on}
 use Rattle.preservation.proofs.Kept.{whole}
 use Rattle.preservation.proofs.Setting.{Setting}
 use Rattle.preservation.proofs.Passing.{Put, put-blind, Only, bind-assoc, bind-same, first, drop, Framed, Reason, same-bind, drop-only, drop-bind, drop-shift, first-bind, first-same, first-only}
 use Rattle.preservation.proofs.Same.{node-same}
 use Rattle.preservation.proofs.At.{run-at}
-use Rattle.preservation.proofs.Bare.{Bare, bare-run}
+use Rattle.preservation.proofs.Bare.{bare-run}
 use Rattle.preservation.proofs.Placing.{over, isNothing, tidy}
 use Rattle.preservation.proofs.Placing as P
 use Rattle.preservation.proofs.Children.{Other, Parts}
+
+-- what was given, without what it was given beside
+abbrev pub bared : {Value : Type 0} → Given Value → Given Value
+bared x = only (x .value)
 
 module _ {Value Rest : Type 0} (σ : Setting Value Rest) where
   open Setting σ using (file, m, v, r, blind, there, plain, free, unaimed, well, tight, expression, no-eval)
@@ -61,11 +60,6 @@ module _ {Value Rest : Type 0} (σ : Setting Value Rest) where
   abbrev Why : {A : Type 0} → S → (S → O A) → Type 0
   Why s c = Reason σ s c
 
-  -- The name itself.
-  name-form : (n : Node) → is 4 n ≡ true → form (cleared n) ≡ name
-  unfolding form cleared
-  name-form n e = rw (eqb-true (n .kind) 4 e)
-
   name-here : (n : Node) (role : Role) (cs : S → O (List (Given Value))) (s : S) → n .label ≡ v → runNode names m name n role cs s ≡ gave (only (s .store .names v)) s
   unfolding runNode gathered childless order finished own held bind beside isName
   name-here n role cs s l = rw (l, there, plain)
@@ -75,10 +69,7 @@ module _ {Value Rest : Type 0} (σ : Setting Value Rest) where
 
   name-run : (n : Node) (ts : Trees) (s : S) → is 4 n ≡ true → n .label ≡ v → go (node n ts) s ≡ gave (only (s .store .names v)) s
   unfolding run cleared
-  name-run n ts s e l = name-at (form (cleared n)) (cleared n) _ s (name-form n e) l
-
-  abbrev bared : Given Value → Given Value
-  bared x = only (x .value)
+  name-run n ts s e l = name-at (form (cleared n)) (cleared n) _ s (name-form (cleared n) e) l
 
   put-v : (a : Value) (s : S) → moved (Put v a) s .store .names v ≡ a
   unfolding moved Put
@@ -87,10 +78,6 @@ module _ {Value Rest : Type 0} (σ : Setting Value Rest) where
   pub first-name : (n : Node) (ts : Trees) (s : S) → is 4 n ≡ true → n .label ≡ v → F (go (node n ts)) s ≡ bind (go r s) (λ x s′. gave (bared x) (moved (Put v (x .value)) s′))
   unfolding first
   first-name n ts s e l = bind-same (go r s) _ _ (λ x s′. name-run n ts (moved (Put v (x .value)) s′) e l ∙ ap (λ w. gave (only w) (moved (Put v (x .value)) s′)) (put-v (x .value) s′))
-
-  same-cond : {A : Type 0} (b : Bool) (x : A) → cond b x x ≡ x
-  same-cond true x = refl
-  same-cond false x = refl
 
   tidy-bare : (t : Tree) (x : Given Value) → tidy σ t (bared x) ≡ bared x
   unfolding tidy
@@ -124,18 +111,12 @@ module _ {Value Rest : Type 0} (σ : Setting Value Rest) where
   unfolding over
   as-over s = refl
 
-  named : (n : Node) → isSpecificId v n ≡ true → (is 4 n ≡ true) × (n .label ≡ v)
-  unfolding isSpecificId
-  named n e = let (p, q) = and-true (is 4 n) (eqb (n .label) v) e in (p, eqb-true (n .label) v q)
-
-  read-here : (n : Node) (ts : Trees) → is 4 n ≡ true → n .label ≡ v → 1 ≤ reads v (node n ts)
-  unfolding usesIn nameRead
-  read-here n ts e l = let z : _≡_ {A = ℕ} (cond (eqb (nameRead n ts) v) 1 0) 1 = rw (e, eq-eqb (n .label) v l) in omega arith
-
+  -- the name itself is replaced
   pub at-name : (n : Node) (ts : Trees) → isSpecificId v n ≡ true → P.Good σ (node n ts) (replaced (at (n .position) r))
   at-name n ts e =
-      let (p, l) = named n e in (
-        read-here n ts p l,
+      let (k, l) = specific v n e in
+      let p = eq-eqb (n .kind) 4 k in (
+        specific-read v n ts e,
         λ s u.
             ap D (ap (over (tidy σ (node n ts))) (first-name n ts s p l) ∙ over-name (node n ts) s)
             ∙ same-bind σ (go r s) _ _ (λ x s′. gave-drop (bared x) (x .value) s′)
@@ -208,6 +189,7 @@ module _ {Value Rest : Type 0} (σ : Setting Value Rest) where
   target-of : (n : Node) (ts : Trees) (s : S) → P.FairAt σ s (node n ts) → P.TargetAt σ s (formOf (shape n)) ts
   target-of n ts s u = λ x s′ e. subst (λ f. TargetSame names m f ts v s s′) (form-shape n) (u x s′ e .0)
 
+  -- a node by the answer of its children
   pub node-good : (n : Node) (ts : Trees) (p : Plan) (pass : Bool) (a : Answer Trees) → Other σ (cleared n) → allTargets v ts ≡ 0 → Parts σ p (formOf (shape n)) (cleared n) ts a → (childless (formOf (shape n)) ≡ true → isNothing p ≡ true)
       → (pass ≡ true → reads v (node n ts) ≡ 0 → Parts σ p (formOf (shape n)) (cleared n) ts passed → (s : S) → Why s (go (node n ts))) → P.Good σ (node n ts) (ofNode n ts pass a)
   unfolding ofNode usesIn

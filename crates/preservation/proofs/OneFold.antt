@@ -1,24 +1,22 @@
 -- One fold of a tree keeps the run: `v = r` and then t, with v read at most once in t, does what the rewritten tree does, the
 -- value of v apart.
-use Prim.Native.Nat.{ℕ, _+_, _≤_}
+use Prim.Native.Nat.{ℕ}
 use native.Mathlib.Omega.{arith}
-use mathlib.Core.Bool.{Bool, true, false, cond}
-use mathlib.Core.List.{List, [], _∷_}
-use mathlib.Core.Path.{_≡_, refl, sym, ap, _∙_, subst}
+use mathlib.Core.Bool.{false}
+use mathlib.Core.Path.{_≡_, sym, ap, _∙_, subst}
 use lib.Dec.{eqb}
 use Rattle.records.specs.Tree.{Tree}
 use Rattle.walk.specs.Context.{contextOf}
-use Rattle.walk.specs.Substitute.{Answer, replaced, stopped, passed, substituteInExpression}
-use Rattle.runs.specs.Store.{Store, set}
+use Rattle.walk.specs.Substitute.{replaced, substituteInExpression}
+use Rattle.runs.specs.Store.{set}
 use Rattle.runs.specs.Hand.{Given}
 use Rattle.runs.specs.Step.{value}
-use Rattle.runs.specs.Meaning.{Meaning}
 use Rattle.runs.specs.State.{Log, State, Out, gave, cut, stop, bind}
 use Rattle.runs.specs.Run.{run}
 use Rattle.runs.specs.Facts.{AgreeBut}
-use Rattle.preservation.proofs.Frame.{moved, shifted, gave-on}
+use Rattle.preservation.proofs.Frame.{moved, shifted}
 use Rattle.preservation.proofs.Setting.{Setting}
-use Rattle.preservation.proofs.Passing.{Put, Framed, bind-same, first, drop, drop-bind, first-bind, first-same}
+use Rattle.preservation.proofs.Passing.{Put, Framed, bind-same, first, drop, drop-bind, first-bind}
 use Rattle.preservation.proofs.Placing.{over, over-bind, tidy, tidy-value}
 use Rattle.preservation.proofs.Placing as P
 use Rattle.preservation.proofs.Sound.{Asked, sound}

@@ -1,37 +1,34 @@
 -- Whatever the search goes past has a reason.
-use Prim.Native.Nat.{ℕ, _+_}
-use native.Mathlib.Omega.{arith}
-use mathlib.Core.Bool.{Bool, true, false, cond, _&&_, _||_, not}
-use mathlib.Core.List.{List, [], _∷_}
-use mathlib.Core.Path.{_≡_, refl, sym, ap, _∙_, subst, fun-ext}
+use mathlib.Core.Bool.{true, false, _&&_, _||_, not}
+use mathlib.Core.List.{List, []}
+use mathlib.Core.Path.{_≡_, refl, ap, _∙_}
 use lib.ListN.{length}
 use lib.Dec.{eqb, ltb}
-use borrow.Author.Tests.{eqb-true}
+use borrow.Author.Tests.{eqb-true, not-true}
 use Rattle.records.specs.Flags.{computed}
-use Rattle.records.specs.Tree.{Node, Tree, Trees, node, none, more}
-use Rattle.records.specs.File.{File, firstTree}
+use Rattle.records.specs.Tree.{Node, Tree, Trees, node}
+use Rattle.records.specs.File.{firstTree}
 use Rattle.records.specs.declared.layout.NameFacts.{NameFacts}
 use Rattle.walk.specs.Context.{contextOf}
 use Rattle.walk.specs.Unsettled.{unsettled}
 use Rattle.walk.specs.Effect.{mayHaveSideEffects, anyHasSideEffects, isLiteralValue}
-use Rattle.walk.specs.Shape.{Shape, constant as literal, identifier, targetName as aim, leaf as lone, chain as links, import, delete, sequence as row, property as pair, stopping, assignment as assigning, steps, shape}
+use Rattle.walk.specs.Shape.{Shape, constant as literal, identifier, targetName as aim, leaf as lone, chain as links, import, delete, sequence as row, property as pair, stopping, assignment as assigning, steps}
 use Rattle.walk.specs.Substitute.{canReorder, stopsAtTarget, mayPass}
-use Rattle.runs.specs.Store.{Store, set}
+use Rattle.runs.specs.Store.{set}
 use Rattle.runs.specs.Hand.{Given, firstOr}
-use Rattle.runs.specs.Step.{Role, value, Step}
-use Rattle.runs.specs.Meaning.{Meaning, done}
+use Rattle.runs.specs.Step.{Role, value}
 use Rattle.runs.specs.Form.{is, cleared, Form, constant, name, chain, property, importing, form, order, childless, isChain}
-use Rattle.runs.specs.State.{State, Out, gave, cut, stop, bind}
-use Rattle.runs.specs.Run.{Turn, all, resolved, caught, gathered, queued, held, own, beside, finished, runNode, run, runChildren, runOthers}
+use Rattle.runs.specs.State.{State, Out, gave, bind}
+use Rattle.runs.specs.Run.{Turn, resolved, gathered, queued, held, own, beside, finished, runNode, run, runChildren, runOthers}
 use Rattle.runs.specs.Settled.{settled}
-use Rattle.runs.specs.Facts.{through, isOfNode}
-use Rattle.preservation.proofs.Tables.{and-true, or-none, not-on, by-or, clash, formOf, form-shape}
-use Rattle.preservation.proofs.Ends.{Ends, gives, cuts, halts, ends-bind, ends-any, ends-map, stepOf}
+use Rattle.preservation.proofs.Tests.{and-true, by-or, clash}
+use Rattle.preservation.proofs.Tables.{formOf}
+use Rattle.preservation.proofs.Ends.{gives, ends-bind, ends-any, ends-map, stepOf}
 use Rattle.preservation.proofs.Uses.{reads, allReads, targets, allTargets}
-use Rattle.preservation.proofs.Frame.{moved, shifted, frame, frame-children, frame-others}
+use Rattle.preservation.proofs.Frame.{frame, frame-others}
 use Rattle.preservation.proofs.Kept.{still, still-children, kept-by}
 use Rattle.preservation.proofs.Setting.{Setting, settled-resolved}
-use Rattle.preservation.proofs.Passing.{Put, put-blind, first, drop, Framed, worth, Calm, Stable, Reason, reading, steady, constant-calm, quiet-calm, one-reason, caught-reason}
+use Rattle.preservation.proofs.Passing.{Put, put-blind, Framed, worth, Calm, Reason, reading, steady, constant-calm, quiet-calm, one-reason, caught-reason}
 
 module _ {Value Rest : Type 0} (σ : Setting Value Rest) where
   open Setting σ using (file, m, v, r, blind, there, free, unaimed, settled-kept, apart)
@@ -82,11 +79,12 @@ module _ {Value Rest : Type 0} (σ : Setting Value Rest) where
   pub by-still : {s : S} (t : Tree) (role : Role) → reads v t ≡ 0 → targets v t ≡ 0 → mayHaveSideEffects r ≡ false → mayHaveSideEffects t ≡ false → Why s (run names m t role)
   by-still t role h g e e′ = by-calm t role h g (calm e) e′
 
+  -- what the Rust's last rule lets pass
   pub by-reorder : {s : S} (t : Tree) (role : Role) → reads v t ≡ 0 → targets v t ≡ 0 → canReorder r t ≡ true → Why s (run names m t role)
   unfolding canReorder
   by-reorder t role h g =
       by-or _ (isLiteralValue true r)
-      (λ e. let (p, q) = and-true (not (mayHaveSideEffects r)) (not (mayHaveSideEffects t)) e in by-still t role h g (not-on _ p) (not-on _ q))
+      (λ e. let (p, q) = and-true (not (mayHaveSideEffects r)) (not (mayHaveSideEffects t)) e in by-still t role h g (not-true _ p) (not-true _ q))
       (λ e. by-literal (run names m t role) (free-frame t h g role) e)
 
   -- A node, by its form.
@@ -125,6 +123,7 @@ module _ {Value Rest : Type 0} (σ : Setting Value Rest) where
   unfolding settled
   settled-in n e g = rw (e, g)
 
+  -- what the search passes by the table of shapes
   pub by-shape : {s : S} (sh : Shape) (n₀ n : Node) (ts : Trees) → mayPass (contextOf file) v r sh n₀ ts ≡ true → (canReorder r (node n₀ ts) ≡ true → Why s (nodeRun sh n ts)) → Framed σ (nodeRun sh n ts)
       → n₀ .label ≡ n .label → (sh ≡ identifier → (eqb (n .label) v ≡ false) × (ltb (n .label) (length names) ≡ true)) → (sh ≡ links → Why s (runChildren names m ts (formOf sh) n value)) → (sh ≡ pair → computed (n₀ .flags) ≡ false → Why s (runChildren names m ts (formOf sh) n value)) → Why s (nodeRun sh n ts)
   unfolding mayPass formOf
@@ -135,10 +134,10 @@ module _ {Value Rest : Type 0} (σ : Setting Value Rest) where
   by-shape links n₀ n ts e h g l o c p = by-chain n value _ (c refl)
   by-shape import n₀ n ts e h g l o c p =
       by-or (not (mayHaveSideEffects r) && not (anyHasSideEffects ts)) _
-      (λ q. let (x, y) = and-true (not (mayHaveSideEffects r)) (not (anyHasSideEffects ts)) q in by-import n value ts g (not-on _ x) (not-on _ y)) h e
+      (λ q. let (x, y) = and-true (not (mayHaveSideEffects r)) (not (anyHasSideEffects ts)) q in by-import n value ts g (not-true _ x) (not-true _ y)) h e
   by-shape delete n₀ n ts e h g l o c p = h e
   by-shape row n₀ n ts e h g l o c p = h e
-  by-shape pair n₀ n ts e h g l o c p = by-property n value _ (p refl (not-on _ e))
+  by-shape pair n₀ n ts e h g l o c p = by-property n value _ (p refl (not-true _ e))
   by-shape stopping n₀ n ts e h g l o c p = clash false refl e
   by-shape (assigning x) n₀ n ts e h g l o c p = h (and-true (not (stopsAtTarget (contextOf file) r x (firstTree ts))) _ e .1)
   by-shape (steps x) n₀ n ts e h g l o c p = h e

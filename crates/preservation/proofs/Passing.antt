@@ -1,16 +1,14 @@
 -- What the search goes past commutes with the initializer.
-use Prim.Native.Nat.{ℕ, _+_}
-use native.Mathlib.Omega.{arith}
+use Prim.Native.Nat.{ℕ}
 use mathlib.Core.Bool.{Bool, true, false, cond}
-use mathlib.Core.List.{List, [], _∷_, _++_}
+use mathlib.Core.List.{List, [], _++_}
 use mathlib.Core.Path.{_≡_, refl, sym, ap, ap₂, _∙_, subst, fun-ext}
 use lib.Dec.{eqb}
 use Rattle.records.specs.Tree.{Tree}
-use Rattle.records.specs.Place.{placed, loose}
 use Rattle.walk.specs.Effect.{mayHaveSideEffects}
 use Rattle.runs.specs.Store.{Store, set}
 use Rattle.runs.specs.Hand.{Given}
-use Rattle.runs.specs.Step.{value, Step}
+use Rattle.runs.specs.Step.{value}
 use Rattle.runs.specs.Meaning.{Act, done, stops, Meaning}
 use Rattle.runs.specs.State.{Log, State, Out, gave, cut, stop, bind}
 use Rattle.runs.specs.Run.{listed, caught, run}

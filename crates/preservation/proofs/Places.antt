@@ -1,25 +1,24 @@
 -- The three places of a tree behind a declarator: the next declarator's initializer, an expression statement, the first
 -- initializer of the next declaration.
-use Prim.Native.Nat.{ℕ, _+_}
-use mathlib.Core.Bool.{Bool, true, false, cond}
+use Prim.Native.Nat.{ℕ}
+use mathlib.Core.Bool.{false}
 use mathlib.Core.List.{List, [], _∷_, _++_}
-use mathlib.Core.Path.{_≡_, refl, sym, ap, _∙_}
+use mathlib.Core.Path.{_≡_, _∙_}
 use lib.Dec.{eqb}
 use Rattle.records.specs.Tree.{Tree}
-use Rattle.records.specs.File.{DeclarationKind, Initializer, bare, given, Declarator, Statement, declaration, expression, other}
+use Rattle.records.specs.File.{DeclarationKind, given, Declarator, Statement, declaration, expression}
 use Rattle.records.specs.declared.layout.NameFacts.{NameFacts}
 use Rattle.walk.specs.Context.{contextOf}
-use Rattle.walk.specs.Substitute.{Answer, replaced, substituteInExpression}
+use Rattle.walk.specs.Substitute.{replaced, substituteInExpression}
 use Rattle.statements.specs.Declarators.{isUsing, withTree}
-use Rattle.runs.specs.Hand.{Given}
 use Rattle.runs.specs.Step.{value}
 use Rattle.runs.specs.Meaning.{Meaning}
 use Rattle.runs.specs.State.{State, Out, gave, bind}
 use Rattle.runs.specs.Run.{run}
 use Rattle.runs.specs.Script.{isPattern, declaresWith, runDeclarator, runDeclarators, gives, runStatement, runStatements}
-use Rattle.preservation.proofs.Frame.{moved, shifted, shifted-bind}
+use Rattle.preservation.proofs.Frame.{shifted-bind}
 use Rattle.preservation.proofs.Setting.{Setting}
-use Rattle.preservation.proofs.Passing.{Put, Framed, bind-assoc, bind-same, gave-bind, drop}
+use Rattle.preservation.proofs.Passing.{Framed, bind-assoc, gave-bind, drop}
 use Rattle.preservation.proofs.Placing as P
 use Rattle.preservation.proofs.Sound.{Asked}
 use Rattle.preservation.proofs.Program.{FreeDeclarators, FreeStatements, declarators-on, statements-on, with-on, gives-on}

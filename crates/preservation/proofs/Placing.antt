@@ -1,25 +1,23 @@
 -- Where the search puts the initializer it may run: what is claimed of the answers, and the answers of a row of children.
 use Prim.Native.Nat.{ℕ, _+_, _≤_}
 use native.Mathlib.Omega.{arith}
-use mathlib.Core.Bool.{Bool, true, false, cond, _&&_, _||_, not}
+use mathlib.Core.Bool.{Bool, true, false, cond, _&&_}
 use mathlib.Core.List.{List, [], _∷_}
-use mathlib.Core.Path.{_≡_, refl, sym, ap, ap₂, _∙_, subst, fun-ext}
-use Rattle.records.specs.Tree.{Node, Tree, Trees, node, none, more}
+use mathlib.Core.Path.{_≡_, refl, sym, ap, _∙_, subst}
+use Rattle.records.specs.Tree.{Tree, Trees, node, none, more}
 use Rattle.records.specs.Place.{root}
 use Rattle.records.specs.Count.{usesIn}
 use Rattle.records.specs.declared.layout.NameFacts.{NameFacts}
-use Rattle.walk.specs.Substitute.{Answer, replaced, stopped, passed, Plan, all as every, first as leading, nothing as none-at-all, value as behind, test, branches, tag, next, asTag, inOrder, inBranches, byPlan, isSpecificId, isMemberTag, preserveIndirectAccess}
-use Rattle.runs.specs.Store.{Store}
-use Rattle.runs.specs.Hand.{nothing, Given, only}
-use Rattle.runs.specs.Step.{Role, value, target}
-use Rattle.runs.specs.Meaning.{Meaning}
-use Rattle.runs.specs.Form.{Choice, never, logical, conditional, optionally, Form}
+use Rattle.walk.specs.Substitute.{Answer, replaced, stopped, passed, Plan, all as every, first as leading, nothing as none-at-all, value as behind, test, branches, tag, next, asTag, inOrder, inBranches, byPlan, isSpecificId, isMemberTag}
+use Rattle.runs.specs.Hand.{Given, only}
+use Rattle.runs.specs.Step.{Role, value}
+use Rattle.runs.specs.Form.{Form}
 use Rattle.runs.specs.State.{State, Out, gave, cut, stop, bind}
-use Rattle.runs.specs.Run.{Turn, all, skipped, second, third, takes, then, inTurn, run, runChildren, runOthers}
+use Rattle.runs.specs.Run.{Turn, all, skipped, second, third, takes, then, inTurn, run, runOthers}
 use Rattle.runs.specs.Facts.{GivesSame, TargetSame, TargetsSame, AllTargetsSame}
-use Rattle.preservation.proofs.Tables.{clash}
-use Rattle.preservation.proofs.Ends.{Ends, gives, cuts, halts, ends-map}
-use Rattle.preservation.proofs.Uses.{reads, allReads, targets, allTargets, Off, off, nothing-off, gives-off}
+use Rattle.preservation.proofs.Tests.{clash}
+use Rattle.preservation.proofs.Ends.{gives, cuts, halts, ends-map}
+use Rattle.preservation.proofs.Uses.{reads, allReads, targets, allTargets, Off, nothing-off, gives-off}
 use Rattle.preservation.proofs.Frame.{moved, shifted, shifted-bind, gave-on, inTurn-on}
 use Rattle.preservation.proofs.Setting.{Setting}
 use Rattle.preservation.proofs.Passing.{Put, Only, bind-same, first, drop, Framed, Calm, Reason, reading, steady, passing, calm-drop, drop-only, drop-bind, first-bind, first-only, two-reasons}
@@ -115,10 +113,6 @@ module _ {Value Rest : Type 0} (σ : Setting Value Rest) where
 
   calm-state : Calm σ → (s s′ : S) (x : Given Value) → go r s ≡ gave x s′ → s ≡ s′
   calm-state q s s′ x e = let (y, g, h) = q s in let z : _≡_ {A = O (Given Value)} (gave y s) (gave x s′) = sym g ∙ e in let w : s ≡ s′ = cc in w
-
-  pub fair-here : (t : Tree) {s u : S} → Here s u → FairAt s t → FairAt u t
-  fair-here t (same e) h = subst (λ s. FairAt s t) (sym e) h
-  fair-here t {u = u} (calmly q) h = λ x s′ e. subst (λ s. TargetsSame names m t v u s) (calm-state q u s′ x e) (same-targets t u)
 
   pub fairs-here : (ts : Trees) {s u : S} → Here s u → FairsAt s ts → FairsAt u ts
   fairs-here ts (same e) h = subst (λ s. FairsAt s ts) (sym e) h
@@ -274,7 +268,7 @@ module _ {Value Rest : Type 0} (σ : Setting Value Rest) where
       ∙ ap D (second-runs t ts s ∙ sym (inTurn-same _ _ _ _ h (λ s′. refl) s) ∙ sym (second-runs t′ ts′ s))
   at-fork t t′ ts ts′ third s c k h g q e = g
 
-  all-calm : Calmly all
+  pub all-calm : Calmly all
   all-calm g = absurd (g refl)
 
   branches-good : (t : Tree) (ts : Trees) (a : Answer Tree) (b : Answer Trees) → reads v t + allReads v ts ≤ 1 → targets v t ≡ 0 → allTargets v ts ≡ 0 → Good t a → Goods every ts b → Goods branches (more t ts) (inBranches t ts a b)
@@ -302,6 +296,7 @@ module _ {Value Rest : Type 0} (σ : Setting Value Rest) where
   tag-good t ts passed (stopped ts′) h g = (refl, λ w s. others-same names m t t ts ts′ w (λ s. refl) (λ s. g .1 (then w) s) s)
   tag-good t ts passed passed h g = λ e. absurd (let z : _≡_ {A = ℕ} 0 1 = cc in omega arith)
 
+  -- a child before others, as the plan has it
   pub plan-good : (p : Plan) (t : Tree) (ts : Trees) (a : Answer Tree) (b : Answer Trees) → reads v t + allReads v ts ≤ 1 → targets v t ≡ 0 → allTargets v ts ≡ 0 → Good t a → Goods (next p) ts b → Goods p (more t ts) (byPlan p t ts a b)
   unfolding byPlan next isNothing
   plan-good every t ts a b c k l h g = order-good every t ts a b refl c k l (λ w z. tt) (λ e. refl) h g

@@ -1,5 +1,5 @@
 -- Declarators and statements that don't use a name run alike whatever its value.
-use Prim.Native.Nat.{ℕ, _+_}
+use Prim.Native.Nat.{ℕ}
 use mathlib.Core.Bool.{Bool, true, false, cond}
 use mathlib.Core.List.{List, [], _∷_}
 use mathlib.Core.Path.{_≡_, refl, sym, ap, _∙_, fun-ext}
@@ -10,14 +10,14 @@ use Rattle.records.specs.File.{DeclarationKind, Var, Let, Const, Using, AwaitUs
 use Rattle.records.specs.declared.layout.NameFacts.{NameFacts}
 use Rattle.runs.specs.Store.{Store, set}
 use Rattle.runs.specs.Hand.{Given, only}
-use Rattle.runs.specs.Step.{value, Origin, ofDeclarator, ofOther, Step}
+use Rattle.runs.specs.Step.{value, ofDeclarator, ofOther, Step}
 use Rattle.runs.specs.Meaning.{Meaning}
-use Rattle.runs.specs.State.{State, Out, gave, cut, stop, bind}
+use Rattle.runs.specs.State.{State, Out, gave, bind}
 use Rattle.runs.specs.Run.{stepped, run}
 use Rattle.runs.specs.Script.{isPattern, sets, binds, declaresBare, declaresWith, runDeclarator, runDeclarators, gives, runStatement, runStatements}
 use Rattle.runs.specs.Facts.{throughBy, through}
 use Rattle.preservation.proofs.Words.{Blinds}
-use Rattle.preservation.proofs.Tables.{clash}
+use Rattle.preservation.proofs.Tests.{clash}
 use Rattle.preservation.proofs.Uses.{reads, targets}
 use Rattle.preservation.proofs.Frame.{moved, shifted, shifted-bind, gave-on, stepped-on, frame}
 use Rattle.preservation.proofs.Passing.{Put, put-blind}
@@ -111,6 +111,7 @@ module _ {Value Rest : Type 0} (names : List NameFacts) (m : Meaning Value Rest)
   declarator-on k n bare e h s = bare-on k n e s
   declarator-on k n (given t) e h s = tree-on t (λ x s′. declaresWith m k n (x .value) s′) h (λ x s′. with-on k n (x .value) e s′) s
 
+  -- declarators that neither use nor declare v run alike
   pub declarators-on : (k : DeclarationKind) (ds : List Declarator) → FreeDeclarators v ds → Alike (runDeclarators names m k ds)
   unfolding runDeclarators
   declarators-on k [] h s = gave-on _ s
@@ -131,6 +132,7 @@ module _ {Value Rest : Type 0} (names : List NameFacts) (m : Meaning Value Rest)
   statement-on (expression t) h s = tree-on t (λ x s′. gives (x .value) s′) h (λ x s′. gives-on (x .value) s′) s
   statement-on other h s = bound-on (record { origin = ofOther; hand = [] }) gives other-step (λ w s′. gives-on w s′) s
 
+  -- so do statements
   pub statements-on : (ss : List Statement) → FreeStatements v ss → Alike (runStatements names m ss)
   unfolding runStatements
   statements-on [] h s = gave-on _ s

@@ -1,36 +1,31 @@
--- A fold keeps nodes good by themselves, and brings no position that the tree and the initializer didn't have.
+-- A fold keeps nodes good by themselves, with as many children as their kinds have.
 use Prim.Native.Nat.{ℕ, _+_, _-_, _/_, _%_, _≤_, _<_}
 use native.Mathlib.Omega.{arith}
-use mathlib.Core.Bool.{Bool, true, false, cond, _&&_, _||_, not}
+use mathlib.Core.Bool.{Bool, true, false, cond, _&&_, _||_, not, or-true}
 use mathlib.Core.List.{List}
-use mathlib.Core.Path.{_≡_, refl, sym, ap, _∙_, subst}
+use mathlib.Core.Path.{_≡_, refl, sym, ap, subst}
 use lib.ListN.{length}
 use lib.Dec.{eqb, ltb, leb}
-use borrow.Author.Tests.{eqb-true, eq-eqb, ne-eqb, eqb-false, ltb-true, lt-ltb}
-use Rattle.records.specs.Flags.{marked, optional, anonymous, compound, shorthand, computed, proto, unresolved}
+use borrow.Author.Tests.{eqb-true, eqb-false, ltb-true, lt-ltb}
+use Rattle.records.specs.Flags.{marked, optional, anonymous, compound, shorthand, computed, proto}
 use Rattle.records.specs.Limits.{noPosition}
 use Rattle.records.specs.Script.{flagsOf}
-use Rattle.records.specs.Node.{isLink, isNamed, twoChildren, fewest, most, goodChildren, goodFlags, mayMark, goodNodeOf, goodNode}
-use Rattle.records.specs.Tree.{Node, Tree, Trees, node, none, more, count, recordOf}
-use Rattle.records.specs.Place.{root}
+use Rattle.records.specs.Node.{isNamed, twoChildren, fewest, most, goodChildren, goodFlags, mayMark, goodNodeOf, goodNode}
+use Rattle.records.specs.Tree.{Node, Tree, Trees, node, count, recordOf}
 use Rattle.records.specs.declared.layout.NameFacts.{NameFacts}
 use Rattle.records.specs.declared.layout.NodeRecord.{NodeRecord}
 use Rattle.walk.specs.Shape.{is, cleared as walked}
-use Rattle.walk.specs.Substitute.{at, preserveIndirectAccess, isSpecificId}
+use Rattle.walk.specs.Substitute.{at, preserveIndirectAccess}
 use Rattle.runs.specs.Form.{cleared}
-use Rattle.runs.specs.Shapes.{someIn, someOf}
-use Rattle.preservation.proofs.Tables.{and-true, by-or, clash, zero-bit, bit-same, marked-by, short-by, two-at, clearedFlags, walked-cleared}
+use Rattle.preservation.proofs.Tests.{and-true, clash}
+use Rattle.preservation.proofs.Tables.{zero-bit, marked-by, short-by, two-at, clearedFlags, walked-cleared}
 use Rattle.preservation.proofs.At.{placedAt}
-use Rattle.preservation.proofs.WellMade.{wellMade, allWellMade, well-node, well-more}
+use Rattle.preservation.proofs.WellMade.{wellMade, allWellMade, well-node, well-more, make-node, make-more}
 use Rattle.preservation.proofs.Turned.{Turned, same, here, apart, under, AllTurned, no-more, both}
 
 -- a node with other flags
 abbrev withFlags : ℕ → Node → Node
 withFlags f n = record { kind = n .kind; flags = f; label = n .label; position = n .position }
-
-or-true : (b : Bool) → (b || true) ≡ true
-or-true true = refl
-or-true false = refl
 
 -- the bits below a shorthand's
 low-by : (w : ℕ) (f : ℕ) (p : Bool) → ((f + 16) / w % 2 ≡ f / w % 2) → ((f - 16) / w % 2 ≡ f / w % 2) → eqb (cond p (f + 16) (f - 16) / w % 2) 1 ≡ eqb (f / w % 2) 1
@@ -162,15 +157,11 @@ module _ (names : List NameFacts) where
   unfolding goodNode goodNodeOf goodFlags goodChildren fewest most
   zero-good p e = rw e
 
-  well-whole : (n : Node) (ts : Trees) → goodNode names (recordOf n (count ts)) ≡ true → allWellMade names ts ≡ true → wellMade names (node n ts) ≡ true
-  unfolding wellMade
-  well-whole n ts a b = rw (a, b)
-
   well-at : (n : Node) (ts : Trees) (t : Tree) → wellMade names (node n ts) ≡ true → wellMade names t ≡ true → wellMade names (at (n .position) t) ≡ true
   unfolding at placedAt
   well-at n ts (node x us) g h =
       let (a, b) = well-node names x us h in
-      well-whole (placedAt (n .position) x) us (good-at x n (count us) (count ts) (well-node names n ts g .0) a) b
+      make-node names (placedAt (n .position) x) us (good-at x n (count us) (count ts) (well-node names n ts g .0) a) b
 
   well-apart : (t : Tree) → wellMade names t ≡ true → wellMade names (preserveIndirectAccess t) ≡ true
   unfolding wellMade preserveIndirectAccess count recordOf
@@ -183,10 +174,6 @@ module _ (names : List NameFacts) where
   unfolding wellMade
   well-under n ts us c h g = rw (c, good-walked n (count ts) (well-node names n ts h .0), g)
 
-  well-both : (t : Tree) (ts : Trees) → wellMade names t ≡ true → allWellMade names ts ≡ true → allWellMade names (more t ts) ≡ true
-  unfolding wellMade
-  well-both t ts a b = rw (a, b)
-
   module _ {v : ℕ} {r : Tree} where
     count-turned : {k : ℕ} {ts us : Trees} → AllTurned v r k ts us → count us ≡ count ts
     unfolding count
@@ -194,6 +181,7 @@ module _ (names : List NameFacts) where
     count-turned (both i j e h g) = let x = count-turned g in omega (arith, x)
 
     mutual
+      -- each node is good by itself
       pub well-turned : {k : ℕ} {t u : Tree} → Turned v r k t u → wellMade names r ≡ true → wellMade names t ≡ true → wellMade names u ≡ true
       well-turned (same e p) w h = rw p h
       well-turned (here {n = n} {ts = ts} e g p) w h = rw p (well-at n ts r h w)
@@ -202,69 +190,4 @@ module _ (names : List NameFacts) where
 
       pub all-well-turned : {k : ℕ} {ts us : Trees} → AllTurned v r k ts us → wellMade names r ≡ true → allWellMade names ts ≡ true → allWellMade names us ≡ true
       all-well-turned (no-more e) w h = h
-      all-well-turned (both {t = t} {t′ = t′} {ts = ts} {ts′ = ts′} i j e a b) w h = well-both t′ ts′ (well-turned a w (well-more names t ts h .0)) (all-well-turned b w (well-more names t ts h .1))
-
--- Positions.
-module _ (φ : ℕ → Bool) where
-  -- a node at a position of this kind
-  abbrev pub somewhere : Tree → Bool
-  somewhere t = someIn (λ n kids. φ (n .position)) t
-
-  abbrev pub someRow : Trees → Bool
-  someRow ts = someOf (λ n kids. φ (n .position)) ts
-
-  or-left : (x y : Bool) → x ≡ true → (x || y) ≡ true
-  or-left true y e = refl
-  or-left false y e = clash false refl e
-
-  or-right : (x y : Bool) → y ≡ true → (x || y) ≡ true
-  or-right true y e = refl
-  or-right false y e = e
-
-  some-at : (n : Node) (ts : Trees) (t : Tree) → somewhere (at (n .position) t) ≡ true → (somewhere (node n ts) || somewhere t) ≡ true
-  unfolding someIn at
-  some-at n ts (node x us) h =
-      by-or (φ (n .position)) (someRow us) (λ e. or-left _ _ (or-left (φ (n .position)) (someRow ts) e)) (λ e. or-right (φ (n .position) || someRow ts) _ (or-right (φ (x .position)) (someRow us) e)) h
-
-  some-apart : (t : Tree) → somewhere (preserveIndirectAccess t) ≡ true → somewhere t ≡ true
-  unfolding someIn preserveIndirectAccess
-  some-apart (node n ts) h = by (φ (n .position)) (someRow ts) h
-    where
-      by : (x y : Bool) → (x || ((x || false) || ((x || y) || false))) ≡ true → (x || y) ≡ true
-      by true y e = refl
-      by false true e = refl
-      by false false e = e
-
-  some-under : (n : Node) (ts us : Trees) (b : Bool) → (someRow us ≡ true → (someRow ts || b) ≡ true) → somewhere (node (walked n) us) ≡ true → (somewhere (node n ts) || b) ≡ true
-  unfolding someIn walked
-  some-under n ts us b g h =
-      by-or (φ (n .position)) (someRow us) (λ e. or-left _ b (or-left (φ (n .position)) (someRow ts) e)) (λ e. regroup (φ (n .position)) (someRow ts) b (g e)) h
-    where
-      regroup : (x y z : Bool) → (y || z) ≡ true → ((x || y) || z) ≡ true
-      regroup true y z e = refl
-      regroup false y z e = e
-
-  some-both : (t t′ : Tree) (ts us : Trees) (b : Bool) → (somewhere t′ ≡ true → (somewhere t || b) ≡ true) → (someRow us ≡ true → (someRow ts || b) ≡ true) → someRow (more t′ us) ≡ true → (someRow (more t ts) || b) ≡ true
-  unfolding someIn
-  some-both t t′ ts us b f g h = by-or (somewhere t′) (someRow us) (λ e. mix (somewhere t) (someRow ts) b (f e)) (λ e. mix′ (somewhere t) (someRow ts) b (g e)) h
-    where
-      mix : (x y z : Bool) → (x || z) ≡ true → ((x || y) || z) ≡ true
-      mix true y z e = refl
-      mix false true z e = refl
-      mix false false z e = e
-
-      mix′ : (x y z : Bool) → (y || z) ≡ true → ((x || y) || z) ≡ true
-      mix′ true y z e = refl
-      mix′ false y z e = e
-
-  module _ {v : ℕ} {r : Tree} where
-    mutual
-      pub some-turned : {k : ℕ} {t u : Tree} → Turned v r k t u → somewhere u ≡ true → (somewhere t || somewhere r) ≡ true
-      some-turned (same {t = t} e p) h = or-left (somewhere t) (somewhere r) (rw p at h)
-      some-turned (here {n = n} {ts = ts} e g p) h = some-at n ts r (rw p at h)
-      some-turned (apart t′ e g i p) h = some-turned i (some-apart t′ (rw p at h))
-      some-turned (under {n = n} {ts = ts} ts′ i p) h = some-under n ts ts′ (somewhere r) (λ e. row-turned i e) (rw p at h)
-
-      row-turned : {k : ℕ} {ts us : Trees} → AllTurned v r k ts us → someRow us ≡ true → (someRow ts || somewhere r) ≡ true
-      row-turned (no-more e) h = or-left (someRow none) (somewhere r) h
-      row-turned (both {t = t} {t′ = t′} {ts = ts} {ts′ = ts′} i j e a b) h = some-both t t′ ts ts′ (somewhere r) (λ e. some-turned a e) (λ e. row-turned b e) h
+      all-well-turned (both {t = t} {t′ = t′} {ts = ts} {ts′ = ts′} i j e a b) w h = make-more names t′ ts′ (well-turned a w (well-more names t ts h .0)) (all-well-turned b w (well-more names t ts h .1))

@@ -1,8 +1,8 @@
 -- Rows and nodes whose parts run the same run the same.
 use mathlib.Core.Bool.{Bool, true, false, cond}
-use mathlib.Core.List.{List, [], _∷_}
-use mathlib.Core.Path.{_≡_, refl, sym, ap, ap₂, _∙_}
-use Rattle.records.specs.Tree.{Node, Tree, Trees, node, none, more}
+use mathlib.Core.List.{List, _∷_}
+use mathlib.Core.Path.{_≡_, refl, ap, ap₂, _∙_}
+use Rattle.records.specs.Tree.{Node, Tree, Trees, more}
 use Rattle.records.specs.declared.layout.NameFacts.{NameFacts}
 use Rattle.runs.specs.Hand.{Given, only}
 use Rattle.runs.specs.Step.{Role, value}

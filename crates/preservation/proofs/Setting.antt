@@ -1,10 +1,11 @@
 -- All that a fold is given: a name, its initializer, and what the file's facts and acceptance say of them.
 use Prim.Native.Nat.{ℕ}
-use mathlib.Core.Bool.{Bool, true, false, _&&_, not}
+use mathlib.Core.Bool.{true, false, _&&_, not}
 use mathlib.Core.List.{[]}
-use mathlib.Core.Path.{_≡_, refl, sym, ap, _∙_}
+use mathlib.Core.Path.{_≡_}
 use lib.ListN.{length}
 use lib.Dec.{eqb, ltb}
+use borrow.Author.Tests.{not-true}
 use Rattle.records.specs.Flags.{unresolved, isEval}
 use Rattle.records.specs.Script.{flagsOf}
 use Rattle.records.specs.Tree.{Tree}
@@ -19,7 +20,7 @@ use Rattle.runs.specs.Run.{resolved}
 use Rattle.runs.specs.Settled.{settled}
 use Rattle.runs.specs.Facts.{through, isOfNode, thisUnblocked}
 use Rattle.preservation.proofs.Words.{Blinds}
-use Rattle.preservation.proofs.Tables.{and-true, or-none, not-on}
+use Rattle.preservation.proofs.Tests.{and-true, or-none}
 use Rattle.preservation.proofs.Uses.{reads, targets}
 
 -- what `this` gives is kept by a step
@@ -53,6 +54,6 @@ pub record Setting (Value Rest : Type 0) : Type 0 where
 pub settled-resolved : (f : File) (a : ℕ) → settled f a ≡ true → resolved (f .names) a ≡ true
 unfolding settled unsettled contextOf factsOf flagsOf
 settled-resolved f a e =
-    let g = not-on _ (and-true (ltb a (length (f .names))) (not (unsettled (contextOf f) a)) e .1) in
+    let g = not-true _ (and-true (ltb a (length (f .names))) (not (unsettled (contextOf f) a)) e .1) in
     let h = or-none (unresolved (factsOf (contextOf f) a .flags)) (symbolValueMayChange (contextOf f) (factsOf (contextOf f) a)) (or-none _ (isClosedOverBlockScopedRead (contextOf f) (factsOf (contextOf f) a)) g .0) .0 in
     rw h

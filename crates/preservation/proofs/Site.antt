@@ -1,31 +1,27 @@
 -- One fold in a program: the declarator goes, its initializer stands in the tree behind it, and the run is the same but for
 -- the value of the name.
-use Prim.Native.Nat.{ℕ, _+_}
-use mathlib.Core.Bool.{Bool, true, false, cond}
+use mathlib.Core.Bool.{true, false}
 use mathlib.Core.List.{List, [], _∷_, _++_}
-use mathlib.Core.Path.{_≡_, refl, sym, ap, _∙_, subst}
-use lib.Dec.{eqb}
+use mathlib.Core.Path.{_≡_, refl, sym, ap, _∙_}
 use Rattle.records.specs.Tree.{Tree}
-use Rattle.records.specs.File.{DeclarationKind, Var, Let, Const, Using, AwaitUsing, Initializer, bare, given, Declarator, Statement, declaration, expression, other}
+use Rattle.records.specs.File.{DeclarationKind, Var, Let, Const, Using, AwaitUsing, given, Declarator, Statement, declaration}
 use Rattle.records.specs.declared.layout.NameFacts.{NameFacts}
 use Rattle.walk.specs.Context.{contextOf}
-use Rattle.walk.specs.Substitute.{Answer, replaced, substituteInExpression}
-use Rattle.statements.specs.Declarators.{isUsing, withTree}
-use Rattle.runs.specs.Store.{Store, set}
+use Rattle.walk.specs.Substitute.{replaced, substituteInExpression}
+use Rattle.statements.specs.Declarators.{isUsing}
 use Rattle.runs.specs.Hand.{Given}
 use Rattle.runs.specs.Step.{value}
 use Rattle.runs.specs.Meaning.{Meaning}
 use Rattle.runs.specs.State.{State, Out, gave, cut, stop, bind}
 use Rattle.runs.specs.Run.{run}
-use Rattle.runs.specs.Script.{isPattern, sets, declaresWith, runDeclarator, runDeclarators, gives, runStatement, runStatements}
-use Rattle.preservation.proofs.Tables.{clash}
-use Rattle.preservation.proofs.Frame.{moved, shifted}
+use Rattle.runs.specs.Script.{isPattern, sets, declaresWith, runDeclarator, runDeclarators, runStatement, runStatements}
+use Rattle.preservation.proofs.Tests.{clash}
+use Rattle.preservation.proofs.Frame.{moved}
 use Rattle.preservation.proofs.Setting.{Setting}
-use Rattle.preservation.proofs.Passing.{Put, Framed, bind-assoc, bind-same, gave-bind, first, drop, same-bind}
+use Rattle.preservation.proofs.Passing.{Put, Framed, bind-assoc, bind-same, gave-bind, first, drop}
 use Rattle.preservation.proofs.Placing as P
 use Rattle.preservation.proofs.Sound.{Asked}
 use Rattle.preservation.proofs.OneFold.{one-fold}
-use Rattle.preservation.proofs.Program.{FreeDeclarators, FreeStatements, declarators-on, statements-on, with-on, gives-on}
 
 -- Parts of programs, one after the other.
 module _ {Value Rest : Type 0} (names : List NameFacts) (m : Meaning Value Rest) where
@@ -126,6 +122,7 @@ module _ {Value Rest : Type 0} (σ : Setting Value Rest) where
   same-at (cut s) f g h = refl
   same-at (stop l) f g h = refl
 
+  -- the fold of a declarator into a tree behind it, whatever comes behind that tree, keeps the run but for v
   pub fold-site : (before : List Statement) (k : DeclarationKind) (ds es es′ : List Declarator) (after after′ : List Statement) (t t′ : Tree) (K : Value → S → O (Unit {0})) (s₀ : S)
       → isUsing k ≡ false → isPattern v ≡ false → Asked σ t → substituteInExpression (contextOf file) v r t ≡ replaced t′
       → Behind (rest-run names m k es after) t K → Behind (rest-run names m k es′ after′) t′ K → ((w : Value) → Framed σ (K w))

@@ -2,15 +2,14 @@
 use Prim.Native.Nat.{ℕ, _+_, _≤_}
 use native.Mathlib.Omega.{arith}
 use mathlib.Core.Bool.{Bool, true, false, cond, _&&_, _||_, not}
-use mathlib.Core.List.{List, [], _∷_}
-use mathlib.Core.Path.{_≡_, refl, sym, ap, ap₂, _∙_, subst, fun-ext}
-use lib.ListN.{length}
-use lib.Dec.{eqb, ltb, leb}
-use borrow.Author.Tests.{eqb-true, le-leb}
-use Rattle.records.specs.Flags.{marked, optional, compound, computed}
-use Rattle.records.specs.Node.{isLink, twoChildren}
+use mathlib.Core.List.{List, []}
+use mathlib.Core.Path.{_≡_, refl, sym, ap, _∙_, subst, fun-ext}
+use lib.Dec.{eqb}
+use borrow.Author.Tests.{eqb-true, le-leb, not-true, eq-eqb}
+use Rattle.records.specs.Flags.{marked, computed}
+use Rattle.records.specs.Node.{isLink}
 use Rattle.records.specs.Tree.{Node, Tree, Trees, node, none, more, count}
-use Rattle.records.specs.File.{File, firstTree}
+use Rattle.records.specs.File.{firstTree}
 use Rattle.records.specs.Place.{root, mayStand, mayBeLoose, loose, standUnder, placed, allPlaced}
 use Rattle.records.specs.Count.{usesIn}
 use Rattle.records.specs.declared.layout.NameFacts.{NameFacts}
@@ -18,91 +17,33 @@ use Rattle.walk.specs.Context.{Context, contextOf}
 use Rattle.walk.specs.Effect.{hasEffect, mayHaveSideEffects, anyHasSideEffects}
 use Rattle.walk.specs.Target.{mayDependOnSideEffect}
 use Rattle.walk.specs.Shape.{isMemberExpression, Choice as Way, never as always, skips, cuts, picks, Shape, constant as literal, identifier, targetName as aim, leaf as lone, chain as links, import, delete, sequence as row, property as pair, stopping, assignment as assigning, steps, shape}
-use Rattle.walk.specs.Substitute.{Answer, replaced, stopped, passed, Plan, all as every, first as leading, nothing as none-at-all, value as behind, test, branches, tag, next, at, preserveIndirectAccess, byPlan, ofNode, isSpecificId, keepsCallee, isMemberTag, keepsIndirect, canReorder, stopsAtTarget, planFor, plan, mayPass, substituteInExpression, substituteInChildren}
+use Rattle.walk.specs.Substitute.{Answer, replaced, passed, Plan, all as every, nothing as none-at-all, value as behind, tag, next, at, preserveIndirectAccess, isSpecificId, keepsCallee, isMemberTag, keepsIndirect, stopsAtTarget, planFor, plan, mayPass, substituteInExpression, substituteInChildren}
 use Rattle.runs.specs.Hand.{Beside, nothing, bareEval, targetName as aTarget, opaqueTarget, member, Given, only, lastOr}
-use Rattle.runs.specs.Step.{Role, value, target}
-use Rattle.runs.specs.Meaning.{Meaning}
-use Rattle.runs.specs.Form.{is, cleared, isMember, isDelete, Form, constant, name, targetName, leaf, chain, property, importing, sequence, assignment, stepping, Choice, never, logical, conditional, optionally, form, order, childless, isName, isChain, isPlain, isAssignment, choiceOf, firstRole, originOf}
+use Rattle.runs.specs.Step.{value, target}
+use Rattle.runs.specs.Form.{is, cleared, isDelete, Form, chain, property, importing, sequence, assignment, stepping, never, logical, conditional, optionally, form, order, childless, isName, isChain, isPlain, isAssignment, choiceOf, firstRole}
 use Rattle.runs.specs.State.{State, Out, gave, cut, stop, bind}
-use Rattle.runs.specs.Run.{Turn, all, skipped, second, third, takes, then, kept, gathered, chosen, inTurn, goesOn, own, beside, finished, runNode, run, runChildren, runOthers}
-use Rattle.preservation.proofs.Tables.{and-true, or-none, not-on, by-or, clash, and-off, choosing, formOf}
-use Rattle.preservation.proofs.Ends.{Ends, gives, cuts, halts, ends-any}
-use Rattle.preservation.proofs.Uses.{reads, allReads, targets, allTargets, off-target}
-use Rattle.preservation.proofs.Kept.{under, stands}
+use Rattle.runs.specs.Run.{Turn, all, skipped, second, third, takes, then, kept, gathered, chosen, inTurn, goesOn, own, beside, finished, runNode, run, runChildren}
+use Rattle.preservation.proofs.Tests.{or-none, by-or, clash, and-off, same-cond, and-mid}
+use Rattle.preservation.proofs.Tables.{choosing, formOf, shapeKinds, shape-kinds}
+use Rattle.preservation.proofs.Ends.{cuts, ends-any}
+use Rattle.preservation.proofs.Uses.{reads, allReads, targets, allTargets, off-target, specific}
+use Rattle.preservation.proofs.Kept.{under, stands, in-row}
 use Rattle.preservation.proofs.Setting.{Setting}
-use Rattle.preservation.proofs.Passing.{bind-assoc, bind-same, gave-bind, Put, first, drop, Framed, Calm, Reason, steady}
+use Rattle.preservation.proofs.Passing.{bind-assoc, bind-same, gave-bind, Put, first, drop, Framed, Reason, steady}
 use Rattle.preservation.proofs.Frame.{moved}
 use Rattle.preservation.proofs.WellMade.{wellMade, allWellMade, well-node, well-more, named-in}
 use Rattle.preservation.proofs.Open.{calm, free-frame, by-still, by-reorder, by-shape}
 use Rattle.preservation.proofs.Bare.{other-kind}
 use Rattle.preservation.proofs.Placing.{over, forks, isNothing, tidy, tidy-value, plan-good}
 use Rattle.preservation.proofs.Placing as P
-use Rattle.preservation.proofs.Children.{lets, Other, Turns, straight, choose, Links, Parts, part-good}
+use Rattle.preservation.proofs.Children.{lets, Other, straight, choose, Links, Parts, part-good}
 use Rattle.preservation.proofs.Children as C
-use Rattle.preservation.proofs.Nodes.{first-name, at-name, shaped, run-as, drop-over, node-good}
-use Rattle.preservation.proofs.Aims.{ThisKnown, AllThisKnown, known-kids, known-head, known-tail, Quiet, target-why}
-
--- the kinds of a shape, as far as they matter
-unfoldable shapeKinds : Shape → Node → Bool
-shapeKinds literal n = true
-shapeKinds identifier n = is 4 n
-shapeKinds aim n = true
-shapeKinds lone n = true
-shapeKinds links n = is 13 n
-shapeKinds import n = is 8 n
-shapeKinds delete n = true
-shapeKinds row n = is 28 n
-shapeKinds pair n = is 26 n
-shapeKinds stopping n = is 26 n || is 25 n
-shapeKinds (assigning c) n = is 20 n
-shapeKinds (steps always) n = not (is 9 n && eqb (n .label) 1)
-shapeKinds (steps skips) n = is 17 n
-shapeKinds (steps cuts) n = isMemberExpression n || is 14 n
-shapeKinds (steps picks) n = is 19 n
-
-data Of (n : Node) (sh : Shape) : Type 0 where
-  of : shapeKinds sh n ≡ true → Of n sh
-
-of-row : {n : Node} (b : Bool) (x : Shape) {y : Shape} → (b ≡ true → shapeKinds x n ≡ true) → Of n y → Of n (cond b x y)
-of-row true x h g = of (h refl)
-of-row false x h g = g
-
-or-right : (x y : Bool) → y ≡ true → (x || y) ≡ true
-or-right true y e = refl
-or-right false y e = e
-
-property-of : (n : Node) (b : Bool) → is 26 n ≡ true → shapeKinds (cond b stopping pair) n ≡ true
-unfolding shapeKinds
-property-of n true e = rw e
-property-of n false e = e
-
-last : (n : Node) → (is 9 n && eqb (n .label) 1) ≡ false → Of n (steps always)
-unfolding shapeKinds
-last n d = of (rw d)
-
-of-shape : (n : Node) (b : Bool) → (is 9 n && eqb (n .label) 1) ≡ b → Of n (shape n)
-unfolding shape shapeKinds
-of-shape n true d = rw (eqb-true (n .kind) 9 (and-true (is 9 n) _ d .0), and-true (is 9 n) _ d .1) (of refl)
-of-shape n false d =
-    of-row (is 1 n || is 2 n || is 27 n) literal (λ e. refl) (of-row (is 4 n) identifier (λ e. e) (of-row (is 29 n) aim (λ e. refl) (of-row (is 0 n || is 3 n || is 5 n || is 30 n) lone (λ e. refl)
-    (of-row (is 13 n) links (λ e. e) (of-row (is 8 n) import (λ e. e) (of-row (is 9 n && eqb (n .label) 1) delete (λ e. refl) (of-row (is 28 n) row (λ e. e)
-    (of-row (is 26 n) (cond (twoChildren (n .flags)) stopping pair) (λ e. property-of n (twoChildren (n .flags)) e) (of-row (is 25 n) stopping (λ e. or-right (is 26 n) _ e)
-    (of-row (is 20 n) (assigning (compound (n .flags))) (λ e. e) (of-row (is 17 n) (steps skips) (λ e. e) (of-row (is 19 n) (steps picks) (λ e. e)
-    (of-row ((isMemberExpression n || is 14 n) && optional (n .flags)) (steps cuts) (λ e. and-true (isMemberExpression n || is 14 n) (optional (n .flags)) e .0) (last n d))))))))))))))
-
-shape-kinds : (n : Node) → shapeKinds (shape n) n ≡ true
-shape-kinds n = told (of-shape n (is 9 n && eqb (n .label) 1) refl)
-  where
-    told : {sh : Shape} → Of n sh → shapeKinds sh n ≡ true
-    told (of e) = e
+use Rattle.preservation.proofs.Nodes.{first-name, at-name, shaped, run-as, drop-over, node-good, bared}
+use Rattle.preservation.proofs.Aims.{ThisKnown, AllThisKnown, known-kids, known-head, known-tail, target-why, none-why}
 
 undelete : (n : Node) → is 9 n ≡ false → isDelete (cleared n) ≡ false
 unfolding isDelete cleared
 undelete n e = rw e
-
-same-cond : {A : Type 0} (b : Bool) (x : A) → cond b x x ≡ x
-same-cond true x = refl
-same-cond false x = refl
 
 first-value : (f : Form) (n : Node) → isPlain f ≡ false → isDelete n ≡ false → firstRole f n value ≡ value
 unfolding firstRole
@@ -195,9 +136,6 @@ module _ {Value Rest : Type 0} (σ : Setting Value Rest) where
   abbrev aside : ℕ → Tree → Tree
   aside p t = node (record { kind = 28; flags = 0; label = 0; position = p }) (more (node (record { kind = 1; flags = 0; label = 65535; position = p }) none) (more t none))
 
-  abbrev bared : Given Value → Given Value
-  bared x = only (x .value)
-
   aside-case : (p : ℕ) (t : Tree) (s : S) (o : O (Given Value)) → go t s ≡ o → go (aside p t) s ≡ over bared (go t s)
   unfolding run runNode form cleared gathered childless isChain isName isPlain isDelete order choiceOf firstRole goesOn chosen takes then inTurn finished own beside kept lastOr bind over
   aside-case p t s (gave x s′) e = rw e
@@ -215,8 +153,7 @@ module _ {Value Rest : Type 0} (σ : Setting Value Rest) where
   bared-tidy t (stop l) = refl
 
   named : (t : Tree) (s : S) → isSpecificId v (root t) ≡ true → F (go t) s ≡ bind (go r s) (λ x s′. gave (bared x) (moved (Put v (x .value)) s′))
-  unfolding isSpecificId
-  named (node n ts) s e = let (p, q) = and-true (is 4 n) (eqb (n .label) v) e in first-name σ n ts s p (eqb-true (n .label) v q)
+  named (node n ts) s e = let (k, l) = specific v n e in first-name σ n ts s (eq-eqb (n .kind) 4 k) l
 
   bared-name : (s : S) → over bared (bind (go r s) (λ x s′. gave (bared x) (moved (Put v (x .value)) s′))) ≡ bind (go r s) (λ x s′. gave (bared x) (moved (Put v (x .value)) s′))
   unfolding over
@@ -255,14 +192,9 @@ module _ {Value Rest : Type 0} (σ : Setting Value Rest) where
   regroup true y z e = e
   regroup false y z e = refl
 
-  regroup-on : (x y z : Bool) → (x && y && z) ≡ true → y ≡ true
-  regroup-on true true z e = refl
-  regroup-on true false z e = e
-  regroup-on false y z e = clash false refl e
-
   plain-links : (b : Bool) (n : Node) (t : Tree) (ts : Trees) → keepsIndirect v r n (more t ts) ≡ b → (is 14 n && spills t) ≡ false → isDelete (cleared n) ≡ false → Links σ (cond b tag every) (stepping never) (cleared n) t ts
   unfolding keepsIndirect firstTree cleared choosing choiceOf next isAssignment isChain order
-  plain-links true n t ts e h d = (aside-good t (regroup-on (is 24 n) (isSpecificId v (root t)) (isMemberTag r) e), straight refl tt, step-value always n d)
+  plain-links true n t ts e h d = (aside-good t (and-mid (is 24 n) (isSpecificId v (root t)) (isMemberTag r) e), straight refl tt, step-value always n d)
   plain-links false n t ts e h d = (search-keep (stepping never) (cleared n) t h (regroup (is 24 n) (isSpecificId v (root t)) (isMemberTag r) e) d refl refl, straight refl tt, step-value always n d)
 
   cut-not : (n : Node) (k : ℕ) → (isMemberExpression n || is 14 n) ≡ true → eqb 10 k ≡ false → eqb 11 k ≡ false → eqb 12 k ≡ false → eqb 14 k ≡ false → is k n ≡ false
@@ -273,7 +205,7 @@ module _ {Value Rest : Type 0} (σ : Setting Value Rest) where
 
   way-links : (w : Way) (x : Bool) (n : Node) (t : Tree) (ts : Trees) → mayHaveSideEffects r ≡ x → shapeKinds (steps w) n ≡ true → (is 14 n && spills t) ≡ false → Links σ (planFor ctx v r w n (more t ts)) (stepping (choosing w)) (cleared n) t ts
   unfolding planFor shapeKinds choosing choiceOf next isAssignment isChain order
-  way-links always x n t ts e k h = plain-links (keepsIndirect v r n (more t ts)) n t ts refl h (unfold isDelete cleared in not-on _ k)
+  way-links always x n t ts e k h = plain-links (keepsIndirect v r n (more t ts)) n t ts refl h (unfold isDelete cleared in not-true _ k)
   way-links skips true n t ts e k h = rw e (of-kind (stepping logical) n 17 t k refl refl refl refl refl, step-value skips n (undelete n (other-kind n 17 9 k refl)))
   way-links skips false n t ts e k h = rw e (of-kind (stepping logical) n 17 t k refl refl refl refl refl, choose (calm σ e) (λ w l. tt), step-value skips n (undelete n (other-kind n 17 9 k refl)))
   way-links cuts true n t ts e k h = rw e (search-keep (stepping optionally) (cleared n) t (unfold cleared in h) (unfold cleared in rw (cut-not n 24 k refl refl refl refl)) (undelete n (cut-not n 9 k refl refl refl refl)) refl refl, step-value cuts n (undelete n (cut-not n 9 k refl refl refl refl)))
@@ -406,14 +338,6 @@ module _ {Value Rest : Type 0} (σ : Setting Value Rest) where
   unfolding run
   nil-why f n = steady (λ u. []) (λ u. refl) (λ a u. refl) (ends-any _ (λ x s′. refl) (λ s′. tt))
 
-  none-why : {s : S} → Why s (runOthers names m none all)
-  unfolding run
-  none-why = steady (λ u. []) (λ u. refl) (λ a u. refl) (ends-any _ (λ x s′. refl) (λ s′. tt))
-
-  placed-head : (t : Tree) (ts : Trees) → allPlaced (more t ts) ≡ true → (placed t ≡ true) × (allPlaced ts ≡ true)
-  unfolding placed
-  placed-head t ts e = and-true (placed t) (allPlaced ts) e
-
   -- What is asked of a tree that is searched: v is read at most once in it and is no target; it is well made.
   abbrev pub Asked : Tree → Type 0
   Asked t = (reads v t ≤ 1) × (targets v t ≡ 0) × (placed t ≡ true) × (wellMade names t ≡ true) × ThisKnown σ t
@@ -427,11 +351,11 @@ module _ {Value Rest : Type 0} (σ : Setting Value Rest) where
 
   asked-head : (t : Tree) (ts : Trees) → AllAsked (more t ts) → Asked t
   unfolding usesIn
-  asked-head t ts (a, b, c, d, e) = (omega arith, omega arith, placed-head t ts c .0, well-more names t ts d .0, known-head σ t ts e)
+  asked-head t ts (a, b, c, d, e) = (omega arith, omega arith, in-row t ts c .0, well-more names t ts d .0, known-head σ t ts e)
 
   asked-tail : (t : Tree) (ts : Trees) → AllAsked (more t ts) → AllAsked ts
   unfolding usesIn
-  asked-tail t ts (a, b, c, d, e) = (omega arith, omega arith, placed-head t ts c .1, well-more names t ts d .1, known-tail σ t ts e)
+  asked-tail t ts (a, b, c, d, e) = (omega arith, omega arith, in-row t ts c .1, well-more names t ts d .1, known-tail σ t ts e)
 
   asked-sum : (t : Tree) (ts : Trees) → AllAsked (more t ts) → reads v t + allReads v ts ≤ 1
   unfolding usesIn
@@ -440,6 +364,7 @@ module _ {Value Rest : Type 0} (σ : Setting Value Rest) where
   mutual
     unfolding substituteInExpression
 
+    -- every answer of the search does what is claimed of it
     pub sound : (t : Tree) → Asked t → P.Good σ t (substituteInExpression ctx v r t)
     sound (node n ts) a =
         name-or n ts (isSpecificId v n) _ refl
@@ -455,5 +380,5 @@ module _ {Value Rest : Type 0} (σ : Setting Value Rest) where
         (sound t (asked-head t ts a)) (sound-others ts (next (plan ctx v r sh n (more t ts))) (asked-tail t ts a))
 
     sound-others : (ts : Trees) (p : Plan) → AllAsked ts → P.Goods σ p ts (substituteInChildren ctx v r p ts)
-    sound-others none p a = λ e z s. none-why
+    sound-others none p a = λ e z s. none-why σ
     sound-others (more t ts) p a = plan-good σ p t ts (substituteInExpression ctx v r t) (substituteInChildren ctx v r (next p) ts) (asked-sum t ts a) (asked-head t ts a .1) (asked-tail t ts a .1) (sound t (asked-head t ts a)) (sound-others ts (next p) (asked-tail t ts a))

@@ -1,9 +1,9 @@
 -- A search that stops has changed nothing that a run sees.
-use Prim.Native.Nat.{ℕ, _+_}
+use Prim.Native.Nat.{ℕ}
 use native.Mathlib.Omega.{arith}
 use mathlib.Core.List.{List}
-use mathlib.Core.Path.{_≡_, refl, sym, ap, _∙_}
-use Rattle.records.specs.Tree.{Node, Tree, Trees, node, none, more}
+use mathlib.Core.Path.{_≡_, refl}
+use Rattle.records.specs.Tree.{Node, Tree, Trees, node}
 use Rattle.records.specs.declared.layout.NameFacts.{NameFacts}
 use Rattle.walk.specs.Context.{Context}
 use Rattle.walk.specs.Shape.{cleared as walked}
@@ -12,7 +12,7 @@ use Rattle.runs.specs.Step.{Role, value}
 use Rattle.runs.specs.Meaning.{Meaning}
 use Rattle.runs.specs.Form.{cleared, Form, form}
 use Rattle.runs.specs.State.{State}
-use Rattle.runs.specs.Run.{Turn, then, runNode, run, runChildren, runOthers}
+use Rattle.runs.specs.Run.{Turn, then, run, runChildren, runOthers}
 use Rattle.preservation.proofs.Tables.{walked-cleared, cleared-once}
 use Rattle.preservation.proofs.Same.{others-same, children-same, node-same}
 use Rattle.preservation.proofs.Turned.{Turned, same, here, apart, under, AllTurned, no-more, both, stopped-turned}
@@ -41,5 +41,6 @@ module _ {Value Rest : Type 0} (names : List NameFacts) (m : Meaning Value Rest)
       rest-same (no-more e) z w s = refl
       rest-same (both {t = t} {t′ = t′} {ts = ts} {ts′ = ts′} i j e h g) z w s = others-same names m t t′ ts ts′ w (λ s. run-same h (omega arith) value s) (λ s. rest-same g (omega arith) (then w) s) s
 
+  -- the tree that a stopped search left runs as the tree did
   pub stopped-same : (ctx : Context) (v : ℕ) (r t t′ : Tree) → substituteInExpression ctx v r t ≡ stopped t′ → (role : Role) (s : S) → run names m t′ role s ≡ run names m t role s
   stopped-same ctx v r t t′ e = run-same (stopped-turned ctx v r t t′ e) refl

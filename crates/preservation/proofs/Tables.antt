@@ -2,39 +2,15 @@
 use Prim.Native.Nat.{ℕ, _+_, _-_, _/_, _%_}
 use native.Mathlib.Omega.{arith}
 use mathlib.Core.Bool.{Bool, true, false, cond, _&&_, _||_, not}
-use mathlib.Core.Path.{_≡_, refl, sym, ap, _∙_}
+use mathlib.Core.Path.{_≡_, refl, ap, _∙_}
 use lib.Dec.{eqb}
-use borrow.Author.Tests.{eqb-true, eq-eqb, ne-eqb, eqb-false}
+use borrow.Author.Tests.{eqb-true, ne-eqb, eqb-false}
 use Rattle.records.specs.Flags.{bit, marked, optional, compound, shorthand, computed, proto}
 use Rattle.records.specs.Node.{isLink, twoChildren}
 use Rattle.records.specs.Tree.{Node}
 use Rattle.walk.specs.Shape.{Choice as Way, never as always, skips, cuts, picks, Shape, constant as literal, identifier, targetName as aim, leaf as lone, chain as links, import, delete, sequence as row, property as pair, stopping, assignment as assigning, steps, shape, cleared as walked, isMemberExpression}
-use Rattle.walk.specs.Effect.{hasEffect}
-use Rattle.runs.specs.Form.{is, cleared, isMarked, isDelete, Choice, never, logical, conditional, optionally, Form, constant, name, targetName, leaf, chain, property, importing, sequence, assignment, stepping, form, order, isAssignment}
-
--- tests
-pub and-true : (x y : Bool) → (x && y) ≡ true → (x ≡ true) × (y ≡ true)
-and-true true y e = (refl, e)
-and-true false y e = (cc, cc)
-
-pub or-none : (x y : Bool) → (x || y) ≡ false → (x ≡ false) × (y ≡ false)
-or-none true y e = (e, cc)
-or-none false y e = (refl, e)
-
-pub not-on : (x : Bool) → not x ≡ true → x ≡ false
-not-on true e = sym e
-not-on false e = refl
-
-pub by-or : {A : Type 0} (x y : Bool) → (x ≡ true → A) → (y ≡ true → A) → (x || y) ≡ true → A
-by-or true y f g e = f refl
-by-or false y f g e = g e
-
-pub and-off : (x y : Bool) → y ≡ false → (x && y) ≡ false
-and-off true y e = e
-and-off false y e = refl
-
-pub clash : {A : Type 0} (b : Bool) → b ≡ false → b ≡ true → A
-clash b e g = absurd (let z : _≡_ {A = ℕ} 0 1 = cc in omega arith)
+use Rattle.runs.specs.Form.{is, cleared, Choice, never, logical, conditional, optionally, Form, constant, name, targetName, leaf, chain, property, importing, sequence, assignment, stepping, form}
+use Rattle.preservation.proofs.Tests.{and-true, and-off, or-right}
 
 -- the kinds of a form
 unfoldable pub kindsOf : Form → Node → Bool
@@ -52,27 +28,70 @@ kindsOf (stepping logical) n = is 17 n
 kindsOf (stepping conditional) n = is 19 n
 kindsOf (stepping optionally) n = isLink (n .kind) && optional (n .flags)
 
-data Of (n : Node) (f : Form) : Type 0 where
-  of : kindsOf f n ≡ true → Of n f
+-- what is taken from a table passes the test of its row
+data Taken {A : Type 0} (test : A → Bool) (x : A) : Type 0 where
+  taken : test x ≡ true → Taken test x
 
-of-by : (n : Node) (x : Form) {y : Form} (b : Bool) → kindsOf x n ≡ b → Of n y → Of n (cond b x y)
-of-by n x true e h = of e
-of-by n x false e h = h
+row-or : {A : Type 0} {test : A → Bool} (b : Bool) (x : A) {y : A} → (b ≡ true → test x ≡ true) → Taken test y → Taken test (cond b x y)
+row-or true x h g = taken (h refl)
+row-or false x h g = g
 
-of-at : (n : Node) (x : Form) {y : Form} → Of n y → Of n (cond (kindsOf x n) x y)
-of-at n x h = of-by n x (kindsOf x n) refl h
+passes : {A : Type 0} {test : A → Bool} {x : A} → Taken test x → test x ≡ true
+passes (taken e) = e
 
-of-form : (n : Node) → Of n (form n)
+form-taken : (n : Node) → Taken (λ f. kindsOf f n) (form n)
 unfolding form kindsOf
-of-form n =
-    of-at n constant (of-at n name (of-at n targetName (of-at n leaf (of-at n chain (of-at n property (of-at n importing (of-at n sequence
-    (of-at n (assignment (compound (n .flags))) (of-at n (stepping logical) (of-at n (stepping conditional) (of-at n (stepping optionally) (of refl))))))))))))
+form-taken n =
+    row-or _ constant (λ e. e) (row-or _ name (λ e. e) (row-or _ targetName (λ e. e) (row-or _ leaf (λ e. e) (row-or _ chain (λ e. e) (row-or _ property (λ e. e)
+    (row-or _ importing (λ e. e) (row-or _ sequence (λ e. e) (row-or _ (assignment (compound (n .flags))) (λ e. e) (row-or _ (stepping logical) (λ e. e)
+    (row-or _ (stepping conditional) (λ e. e) (row-or _ (stepping optionally) (λ e. e) (taken refl))))))))))))
 
 pub kinds : (n : Node) → kindsOf (form n) n ≡ true
-kinds n = told (of-form n)
-  where
-    told : {f : Form} → Of n f → kindsOf f n ≡ true
-    told (of e) = e
+kinds n = passes (form-taken n)
+
+pub name-form : (n : Node) → is 4 n ≡ true → form n ≡ name
+unfolding form
+name-form n e = rw (eqb-true (n .kind) 4 e)
+
+-- the kinds of a shape, as far as they matter
+unfoldable pub shapeKinds : Shape → Node → Bool
+shapeKinds literal n = true
+shapeKinds identifier n = is 4 n
+shapeKinds aim n = true
+shapeKinds lone n = true
+shapeKinds links n = is 13 n
+shapeKinds import n = is 8 n
+shapeKinds delete n = true
+shapeKinds row n = is 28 n
+shapeKinds pair n = is 26 n
+shapeKinds stopping n = is 26 n || is 25 n
+shapeKinds (assigning c) n = is 20 n
+shapeKinds (steps always) n = not (is 9 n && eqb (n .label) 1)
+shapeKinds (steps skips) n = is 17 n
+shapeKinds (steps cuts) n = isMemberExpression n || is 14 n
+shapeKinds (steps picks) n = is 19 n
+
+property-of : (n : Node) (b : Bool) → is 26 n ≡ true → shapeKinds (cond b stopping pair) n ≡ true
+unfolding shapeKinds
+property-of n true e = rw e
+property-of n false e = e
+
+last-taken : (n : Node) → (is 9 n && eqb (n .label) 1) ≡ false → Taken (λ sh. shapeKinds sh n) (steps always)
+unfolding shapeKinds
+last-taken n d = taken (rw d)
+
+shape-taken : (n : Node) (b : Bool) → (is 9 n && eqb (n .label) 1) ≡ b → Taken (λ sh. shapeKinds sh n) (shape n)
+unfolding shape shapeKinds
+shape-taken n true d = rw (eqb-true (n .kind) 9 (and-true (is 9 n) _ d .0), and-true (is 9 n) _ d .1) (taken refl)
+shape-taken n false d =
+    row-or (is 1 n || is 2 n || is 27 n) literal (λ e. refl) (row-or (is 4 n) identifier (λ e. e) (row-or (is 29 n) aim (λ e. refl) (row-or (is 0 n || is 3 n || is 5 n || is 30 n) lone (λ e. refl)
+    (row-or (is 13 n) links (λ e. e) (row-or (is 8 n) import (λ e. e) (row-or (is 9 n && eqb (n .label) 1) delete (λ e. refl) (row-or (is 28 n) row (λ e. e)
+    (row-or (is 26 n) (cond (twoChildren (n .flags)) stopping pair) (λ e. property-of n (twoChildren (n .flags)) e) (row-or (is 25 n) stopping (λ e. or-right (is 26 n) _ e)
+    (row-or (is 20 n) (assigning (compound (n .flags))) (λ e. e) (row-or (is 17 n) (steps skips) (λ e. e) (row-or (is 19 n) (steps picks) (λ e. e)
+    (row-or ((isMemberExpression n || is 14 n) && optional (n .flags)) (steps cuts) (λ e. and-true (isMemberExpression n || is 14 n) (optional (n .flags)) e .0) (last-taken n d))))))))))))))
+
+pub shape-kinds : (n : Node) → shapeKinds (shape n) n ≡ true
+shape-kinds n = passes (shape-taken n (is 9 n && eqb (n .label) 1) refl)
 
 -- A shorthand.
 pub bit-same : (w f g : ℕ) → f / w % 2 ≡ g / w % 2 → bit w f ≡ bit w g
@@ -151,6 +170,14 @@ walked-by false p f e = refl
 pub walked-cleared : (n : Node) → walked n ≡ cleared n
 unfolding walked cleared
 walked-cleared n = λ j. record { kind = n .kind; flags = walked-by (is 26 n && shorthand (n .flags)) (proto (n .flags)) (n .flags) (λ e. and-true (is 26 n) _ e .1) j; label = n .label; position = n .position }
+
+-- no link is a shorthand
+pub link-cleared : (n : Node) → (isLink (n .kind) && optional (cleared n .flags)) ≡ (isLink (n .kind) && optional (n .flags))
+link-cleared n = by (is 26 n) refl
+  where
+    by : (b : Bool) → is 26 n ≡ b → (isLink (n .kind) && optional (cleared n .flags)) ≡ (isLink (n .kind) && optional (n .flags))
+    by true e = rw (eqb-true (n .kind) 26 e)
+    by false e = unfold cleared in rw e
 
 marked-at : (b : Bool) (f : ℕ) → (b ≡ true → shorthand f ≡ true) → marked (cond b (clearedFlags f) f) ≡ marked f
 marked-at true f e = marked-by f (proto f) (e refl)

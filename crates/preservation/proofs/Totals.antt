@@ -1,17 +1,14 @@
 -- Sums over the declarators and expression statements of a program, and what a tree in a place adds to them.
-use Prim.Native.Nat.{ℕ, _+_, _≤_}
+use Prim.Native.Nat.{ℕ, _+_}
 use native.Mathlib.Omega.{arith}
-use mathlib.Core.Bool.{Bool, true, false, cond}
 use mathlib.Core.List.{List, [], _∷_, _++_}
-use mathlib.Core.Path.{_≡_, refl, sym, ap, _∙_}
+use mathlib.Core.Path.{_≡_, refl}
 use lib.Dec.{eqb}
 use Rattle.records.specs.Tree.{Node, Tree, Trees, none, more}
 use Rattle.records.specs.Count.{usesIn, usesOf}
 use Rattle.records.specs.File.{one, DeclarationKind, Initializer, bare, given, Declarator, Statement, declaration, expression, other, initializerTree, initializerTrees, statementTrees, allTrees, declaratorsIn, allDeclarators}
 use Rattle.statements.specs.Declarators.{withTree}
-use Rattle.preservation.proofs.Uses.{reads, targets}
-use Rattle.preservation.proofs.Places.{Place, declarator, statement, initializer, declaratorsAt, statementsAt, FreeBehind}
-use Rattle.preservation.proofs.Program.{FreeTree, FreeInitializer, FreeDeclarators, FreeStatement, FreeStatements}
+use Rattle.preservation.proofs.Places.{Place, declarator, statement, initializer, declaratorsAt, statementsAt}
 
 -- the weight of an initializer
 unfoldable pub weighed : (Tree → ℕ) → Initializer → ℕ
@@ -95,39 +92,19 @@ there-tree w (initializer k d ds) t = refl
 abbrev pub trees : (Tree → ℕ) → List Statement → ℕ
 trees w P = total (ofInitializer w) w P
 
--- how often a name is declared
+-- how often a declarator, and a program, declares a name
+abbrev pub declaring : ℕ → Declarator → ℕ
+declaring a d = one (eqb (d .name) a)
+
 abbrev pub declarations : ℕ → List Statement → ℕ
-declarations a P = total (λ d. one (eqb (d .name) a)) (λ t. 0) P
+declarations a P = total (declaring a) (λ t. 0) P
 
 -- the tree in a place declares nothing
-pub there-declared : (a : ℕ) (p : Place) (t t′ : Tree) → there (λ d. one (eqb (d .name) a)) (λ t. 0) p t ≡ there (λ d. one (eqb (d .name) a)) (λ t. 0) p t′
+pub there-declared : (a : ℕ) (p : Place) (t t′ : Tree) → there (declaring a) (λ t. 0) p t ≡ there (declaring a) (λ t. 0) p t′
 unfolding there
 there-declared a (declarator d ds) t t′ = refl
 there-declared a statement t t′ = refl
 there-declared a (initializer k d ds) t t′ = refl
-
--- The counts of row 10 are such sums.
-module _ (named : Node → Trees → ℕ) (a : ℕ) where
-  initializer-uses : (i : Initializer) (ts : Trees) → usesOf named a (initializerTree i ts) ≡ weighed (usesIn named a) i + usesOf named a ts
-  unfolding usesIn initializerTree weighed
-  initializer-uses bare ts = omega arith
-  initializer-uses (given t) ts = refl
-
-  declarators-uses : (ds : List Declarator) (ts : Trees) → usesOf named a (initializerTrees ds ts) ≡ totalOf (ofInitializer (usesIn named a)) (usesIn named a) ds + usesOf named a ts
-  unfolding initializerTrees totalOf
-  declarators-uses [] ts = omega arith
-  declarators-uses (d ∷ ds) ts = let h = declarators-uses ds ts in let g = initializer-uses (d .initializer) (initializerTrees ds ts) in omega (arith, h, g)
-
-  statement-uses : (s : Statement) (ts : Trees) → usesOf named a (statementTrees s ts) ≡ totalIn (ofInitializer (usesIn named a)) (usesIn named a) s + usesOf named a ts
-  unfolding statementTrees totalIn usesIn
-  statement-uses (declaration k ds) ts = declarators-uses ds ts
-  statement-uses (expression t) ts = refl
-  statement-uses other ts = omega arith
-
-  pub program-uses : (ss : List Statement) → usesOf named a (allTrees ss) ≡ trees (usesIn named a) ss
-  unfolding allTrees total usesIn
-  program-uses [] = refl
-  program-uses (s ∷ ss) = let h = program-uses ss in let g = statement-uses s (allTrees ss) in omega (arith, h, g)
 
 -- Any weight, over the row of all trees.
 unfoldable pub sums : (Tree → ℕ) → Trees → ℕ
@@ -155,6 +132,17 @@ module _ (w : Tree → ℕ) where
   unfolding allTrees total sums
   program-sums [] = refl
   program-sums (s ∷ ss) = let h = program-sums ss in let g = statement-sums s (allTrees ss) in omega (arith, h, g)
+
+-- The counts of row 10 are such sums.
+module _ (named : Node → Trees → ℕ) (a : ℕ) where
+  uses-sums : (ts : Trees) → usesOf named a ts ≡ sums (usesIn named a) ts
+  unfolding usesIn sums
+  uses-sums none = refl
+  uses-sums (more t ts) = let h = uses-sums ts in omega (arith, h)
+
+  -- a program's uses of a name are the sum over its trees
+  pub program-uses : (ss : List Statement) → usesOf named a (allTrees ss) ≡ trees (usesIn named a) ss
+  program-uses ss = let h = uses-sums (allTrees ss) in let g = program-sums (usesIn named a) ss in omega (arith, h, g)
 
 -- A weight of declarators, over the list of them all.
 module _ (wd : Declarator → ℕ) where

@@ -1,8 +1,7 @@
 -- What a search makes of a tree: the name's place is taken, as often as the search says, and shorthands may be cleared.
-use Prim.Native.Nat.{ℕ, _+_, _≤_}
-use native.Mathlib.Omega.{arith}
-use mathlib.Core.Bool.{Bool, true, false, cond, _&&_, _||_, not}
-use mathlib.Core.Path.{_≡_, refl, sym, ap, subst}
+use Prim.Native.Nat.{ℕ, _+_}
+use mathlib.Core.Bool.{Bool, true, false, cond}
+use mathlib.Core.Path.{_≡_, refl, subst}
 use Rattle.records.specs.Flags.{computed}
 use Rattle.records.specs.Tree.{Node, Tree, Trees, node, none, more}
 use Rattle.records.specs.File.{firstTree}
@@ -10,7 +9,8 @@ use Rattle.records.specs.Place.{root}
 use Rattle.walk.specs.Context.{Context}
 use Rattle.walk.specs.Effect.{mayHaveSideEffects}
 use Rattle.walk.specs.Shape.{Choice, never, skips, cuts, picks, Shape, constant, identifier, targetName, leaf, chain, import, delete, sequence, property, stopping, assignment, steps, shape, cleared, is}
-use Rattle.walk.specs.Substitute.{Answer, replaced, stopped, passed, Plan, all, first, nothing, value, test, branches, tag, next, at, preserveIndirectAccess, asTag, inOrder, inBranches, byPlan, ofNode, isSpecificId, keepsCallee, isMemberTag, keepsIndirect, stopsAtTarget, planFor, plan, mayPass, substituteInExpression, substituteInChildren}
+use Rattle.walk.specs.Substitute.{Answer, replaced, stopped, passed, Plan, all, first, nothing, value, test, branches, tag, next, at, preserveIndirectAccess, asTag, inOrder, inBranches, byPlan, ofNode, isSpecificId, keepsCallee, isMemberTag, keepsIndirect, stopsAtTarget, planFor, plan, substituteInExpression, substituteInChildren}
+use Rattle.preservation.proofs.Tests.{and-mid}
 
 -- the number says how often r was placed
 mutual
@@ -91,11 +91,6 @@ module _ (ctx : Context) (v : ℕ) (r : Tree) where
   plan-made branches t ts a b e h g = branches-made t ts a b h g
   plan-made tag t ts a b e h g = order-made t ts (asTag a) b (tag-made t a e h) g
 
-  and-mid : (x y z : Bool) → (x && y && z) ≡ true → y ≡ true
-  and-mid true true z e = refl
-  and-mid true false z e = e
-  and-mid false y z e = absurd (let q : _≡_ {A = ℕ} 0 1 = cc in omega arith)
-
   tags-never : (b : Bool) (n : Node) (ts : Trees) → keepsIndirect v r n ts ≡ b → Tags (cond b tag all) ts
   unfolding keepsIndirect
   tags-never true n ts e = and-mid (is 24 n) (isSpecificId v (root (firstTree ts))) (isMemberTag r) e
@@ -148,6 +143,7 @@ module _ (ctx : Context) (v : ℕ) (r : Tree) where
     all-made none p e = tt
     all-made (more t ts) p e = plan-made p t ts _ _ e (made t) (all-made ts (next p) (tags-next p ts))
 
+  -- a search that replaces places the initializer once; one that stops, nowhere
   pub replaced-turned : (t t′ : Tree) → substituteInExpression ctx v r t ≡ replaced t′ → Turned v r 1 t t′
   replaced-turned t t′ e = subst (λ a. Made t a) e (made t)
 

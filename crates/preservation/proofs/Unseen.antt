@@ -1,21 +1,21 @@
 -- Two changes that no run sees: the shorthands that a stopped search cleared, and an empty declaration that was dropped.
 use mathlib.Core.List.{List, [], _∷_, _++_}
-use mathlib.Core.Path.{_≡_, refl, sym, ap, _∙_}
+use mathlib.Core.Path.{_≡_, sym, ap, _∙_}
 use Rattle.records.specs.File.{Statement, declaration}
 use Rattle.records.specs.declared.layout.NameFacts.{NameFacts}
 use Rattle.walk.specs.Context.{Context}
 use Rattle.runs.specs.Step.{value}
 use Rattle.runs.specs.Meaning.{Meaning}
-use Rattle.runs.specs.State.{State, Out, gave, bind}
-use Rattle.runs.specs.Run.{run}
+use Rattle.runs.specs.State.{State, bind}
 use Rattle.runs.specs.Script.{runDeclarators, runStatement, runStatements}
 use Rattle.preservation.proofs.Passing.{bind-same, gave-bind}
 use Rattle.preservation.proofs.Stopped.{stopped-same}
-use Rattle.preservation.proofs.Site.{rest-run, at-site, statements-append}
+use Rattle.preservation.proofs.Site.{at-site, statements-append}
 use Rattle.preservation.proofs.Places.{declaratorsAt, statementsAt, behind, place-run}
 use Rattle.preservation.proofs.Moves.{StopAt, DropAt}
 
 module _ {Value Rest : Type 0} (names : List NameFacts) (m : Meaning Value Rest) (ctx : Context) (P Q : List Statement) (s : State Value Rest) where
+  -- a search that stopped: the program runs the same
   pub stop-same : StopAt ctx P Q → runStatements names m P s ≡ runStatements names m Q s
   stop-same move =
       ap (λ X. runStatements names m X s) (move .from)
@@ -31,6 +31,7 @@ module _ {Value Rest : Type 0} (names : List NameFacts) (m : Meaning Value Rest)
   unfolding runStatements runStatement runDeclarators
   empty-run move s′ = gave-bind tt s′ (λ u s″. runStatements names m (move .after) s″)
 
+  -- an empty declaration that was dropped: the program runs the same
   pub drop-same : DropAt ctx P Q → runStatements names m P s ≡ runStatements names m Q s
   drop-same move =
       ap (λ X. runStatements names m X s) (move .from)

@@ -1,26 +1,26 @@
 -- Trees that don't use a name: no step of theirs is made through it, and what they give names it as no target.
-use Prim.Native.Nat.{ℕ, _+_}
+use Prim.Native.Nat.{ℕ, _+_, _≤_}
 use native.Mathlib.Omega.{arith}
 use mathlib.Core.Bool.{Bool, true, false, cond, _&&_, _||_}
 use mathlib.Core.List.{List, [], _∷_}
-use mathlib.Core.Path.{_≡_, refl, sym, ap}
+use mathlib.Core.Path.{_≡_, refl}
 use lib.Dec.{eqb}
-use borrow.Author.Tests.{eqb-true, eq-eqb, ne-eqb}
-use Rattle.records.specs.Flags.{compound, isEval}
-use Rattle.records.specs.Limits.{noNumber}
+use borrow.Author.Tests.{eqb-true, eq-eqb}
+use Rattle.walk.specs.Substitute.{isSpecificId}
+use Rattle.records.specs.Flags.{isEval}
 use Rattle.records.specs.Script.{flagsOf}
-use Rattle.records.specs.Tree.{Node, Tree, Trees, node, none, more}
-use Rattle.records.specs.Count.{targetName as aimOf, firstTarget, nameRead, usesIn, usesOf}
+use Rattle.records.specs.Tree.{Node, Tree, Trees, node, more}
+use Rattle.records.specs.Count.{targetName as aimOf, nameRead, usesIn, usesOf}
 use Rattle.records.specs.declared.layout.NameFacts.{NameFacts}
-use Rattle.runs.specs.Hand.{Key, Beside, nothing, bareEval, targetName, opaqueTarget, member, Given, only, firstOr}
-use Rattle.runs.specs.Step.{Role, Step}
+use Rattle.runs.specs.Hand.{Key, Beside, nothing, bareEval, targetName, opaqueTarget, member, Given, firstOr}
+use Rattle.runs.specs.Step.{Role}
 use Rattle.runs.specs.Meaning.{Meaning}
 use Rattle.runs.specs.Form.{is, cleared, isDelete, Form, form, isName, isChain, isAssignment, originOf}
 use Rattle.runs.specs.State.{State, Out}
-use Rattle.runs.specs.Run.{kept, own, beside, Turn, run, runChildren, runOthers}
+use Rattle.runs.specs.Run.{kept, own, beside, run, runChildren}
 use Rattle.runs.specs.Facts.{isTargetOf, aims, throughBy, through}
-use Rattle.preservation.proofs.Tables.{and-off}
-use Rattle.preservation.proofs.Ends.{Ends, gives, cuts, halts, ends-any, ends-map, First, stepOf, Given-ends, Hand-ends, ends, ends-children}
+use Rattle.preservation.proofs.Tests.{and-off, and-true}
+use Rattle.preservation.proofs.Ends.{Ends, ends-any, First, stepOf, Given-ends, Hand-ends, ends, ends-children}
 
 -- how often a tree reads a name, and how often the name is a target in it
 abbrev pub reads : ℕ → Tree → ℕ
@@ -58,6 +58,15 @@ and-by false y h = refl
 or-and-by : (x y z : Bool) → (x ≡ true → z ≡ false) → (y ≡ true → z ≡ false) → ((x || y) && z) ≡ false
 or-and-by true y z h g = h refl
 or-and-by false y z h g = and-by y z g
+
+-- the name that is searched for, and that it is read there
+pub specific : (v : ℕ) (n : Node) → isSpecificId v n ≡ true → (n .kind ≡ 4) × (n .label ≡ v)
+unfolding isSpecificId
+specific v n e = let (p, q) = and-true (is 4 n) (eqb (n .label) v) e in (eqb-true (n .kind) 4 p, eqb-true (n .label) v q)
+
+pub specific-read : (v : ℕ) (n : Node) (ts : Trees) → isSpecificId v n ≡ true → 1 ≤ reads v (node n ts)
+unfolding usesIn nameRead
+specific-read v n ts e = let (p, q) = specific v n e in let z : _≡_ {A = ℕ} (cond (eqb (nameRead n ts) v) 1 0) 1 = rw (p, q, eq-eqb v v refl) in omega arith
 
 or-off : (x y : Bool) → x ≡ false → y ≡ false → (x || y) ≡ false
 or-off x y e g = rw (e, g)
@@ -150,6 +159,7 @@ module _ {Value Rest : Type 0} (names : List NameFacts) (m : Meaning Value Rest)
   any-step : (n : Node) (ts : Trees) (role : Role) (hs : List (Given Value)) (s : State Value Rest) → targets v (node n ts) ≡ 0 → First (Off v) hs → Unit {0} → Ends (λ w s′. Unit {0}) (λ s′. Unit {0}) (Unit {0}) (own names m (form (cleared n)) (cleared n) role (stepOf (cleared n) role hs) s)
   any-step n ts role hs s h g p = ends-any _ (λ w s′. tt) (λ s′. tt)
 
+  -- a tree in which v is no target gives no such target
   pub gives-off : (t : Tree) → targets v t ≡ 0 → (role : Role) (s : State Value Rest) → Gives-off (run names m t role s)
   gives-off t h role s = ends names m (Off v) (λ s. Unit {0}) (Unit {0}) (λ t. targets v t ≡ 0) (λ ts. allTargets v ts ≡ 0) (kids-targets v) (head-targets v) (tail-targets v) (nothing-off v) (kept-off v) aside-off any-step t h role s tt
 

@@ -1,9 +1,9 @@
 -- Trees whose nodes are good by themselves, with as many children as they have: row 7 of the refusal table, for trees.
-use Prim.Native.Nat.{ℕ, _≤_}
+use Prim.Native.Nat.{ℕ}
 use native.Mathlib.Omega.{arith}
-use mathlib.Core.Bool.{Bool, true, false, cond, _&&_, _||_, not}
-use mathlib.Core.List.{List, [], _∷_}
-use mathlib.Core.Path.{_≡_, refl, sym, ap, _∙_}
+use mathlib.Core.Bool.{Bool, true, false, _&&_, _||_, not}
+use mathlib.Core.List.{List}
+use mathlib.Core.Path.{_≡_}
 use lib.ListN.{length, getD}
 use lib.Dec.{eqb, ltb, leb}
 use borrow.Author.Tests.{eqb-true, leb-true}
@@ -14,7 +14,7 @@ use Rattle.records.specs.Node.{isNamed, fewest, most, goodChildren, goodFlags, 
 use Rattle.records.specs.Tree.{Node, Tree, Trees, node, none, more, count, recordOf}
 use Rattle.records.specs.declared.layout.NameFacts.{NameFacts}
 use Rattle.records.specs.declared.layout.NodeRecord.{NodeRecord}
-use Rattle.preservation.proofs.Tables.{and-true, by-or}
+use Rattle.preservation.proofs.Tests.{and-true, by-or, or-left}
 
 unfoldable mutual
   pub wellMade : List NameFacts → Tree → Bool
@@ -33,13 +33,17 @@ module _ (names : List NameFacts) where
   unfolding wellMade
   well-more t ts e = and-true (wellMade names t) (allWellMade names ts) e
 
+  pub make-node : (n : Node) (ts : Trees) → goodNode names (recordOf n (count ts)) ≡ true → allWellMade names ts ≡ true → wellMade names (node n ts) ≡ true
+  unfolding wellMade
+  make-node n ts a b = rw (a, b)
+
+  pub make-more : (t : Tree) (ts : Trees) → wellMade names t ≡ true → allWellMade names ts ≡ true → allWellMade names (more t ts) ≡ true
+  unfolding wellMade
+  make-more t ts a b = rw (a, b)
+
   right : (x y : Bool) → (not x || y) ≡ true → x ≡ true → y ≡ true
   right true y e g = e
   right false y e g = absurd (let z : _≡_ {A = ℕ} 0 1 = cc in omega arith)
-
-  or-left : (x y : Bool) → x ≡ true → (x || y) ≡ true
-  or-left true y e = refl
-  or-left false y e = cc
 
   abbrev parts : NodeRecord → Bool
   parts n = leb (n .kind) 30 && (not (isNamed (n .kind)) || ltb (n .label) (length names))

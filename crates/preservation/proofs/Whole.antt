@@ -1,31 +1,33 @@
 -- The fold of a file keeps its run: all moves together.
-use Prim.Native.Nat.{ℕ, _+_, _≤_}
+use Prim.Native.Nat.{ℕ, _≤_}
 use native.Mathlib.Omega.{arith}
-use mathlib.Core.Bool.{Bool, true, false, cond, _&&_, _||_, not}
-use mathlib.Core.List.{List, [], _∷_, _++_, reverse}
+use mathlib.Core.Bool.{Bool, true, false, cond}
+use mathlib.Core.List.{List, [], _∷_, reverse}
 use mathlib.Core.Path.{_≡_, refl, sym, ap, _∙_, subst, fun-ext}
 use lib.Dec.{eqb}
 use borrow.Author.Tests.{eqb-true}
-use Rattle.records.specs.File.{one, given, Declarator, Statement, File, allDeclarators}
+use Rattle.records.specs.File.{Statement, File}
 use Rattle.walk.specs.Context.{contextOf}
 use Rattle.statements.specs.Trace.{Fold}
-use Rattle.statements.specs.Fold.{Folded, foldedFile, withStatements, foldFile}
+use Rattle.statements.specs.Fold.{foldedFile, withStatements, foldFile}
 use Rattle.runs.specs.Store.{Store, set}
 use Rattle.runs.specs.Meaning.{Meaning}
-use Rattle.runs.specs.State.{Log, State, Out, gave, cut, stop, bind}
-use Rattle.runs.specs.Script.{runStatements, begin, End, stopped, ended, Ran, whole, ran, runFile}
-use Rattle.runs.specs.Shapes.{declaredIn, declared}
+use Rattle.runs.specs.State.{Log, State, Out, gave, cut, stop}
+use Rattle.runs.specs.Script.{runStatements, begin, stopped, ended, whole, ran, runFile}
+use Rattle.runs.specs.Shapes.{declared}
 use Rattle.runs.specs.Facts.{Each, FoldKeeps, Facts}
-use Rattle.runs.specs.Demand.{folded, SameEnd, both-stopped, both-ended, SameRun, Unchanged}
-use Rattle.preservation.proofs.Tables.{and-true, clash}
+use Rattle.runs.specs.Demand.{folded, both-stopped, both-ended, SameRun, Unchanged}
+use Rattle.preservation.proofs.Tests.{clash}
 use Rattle.preservation.proofs.Frame.{Shift, moved, shifted}
 use Rattle.preservation.proofs.Passing.{Put}
-use Rattle.preservation.proofs.Moves.{FoldAt, StopAt, DropAt, Moves, done, fold, stop as halt, drop, file-moves}
-use Rattle.preservation.proofs.Totals.{declarations, total, totalOf, around, there, site-total, fold-total, drop-total, there-declared}
-use Rattle.preservation.proofs.Fine.{Accepted, Fine, declared-none}
+use Rattle.preservation.proofs.Moves.{Moves, done, fold, stop as halt, drop, file-moves}
+use Rattle.preservation.proofs.Totals.{declarations, declaring}
+use Rattle.preservation.proofs.Fine.{Accepted, Fine}
 use Rattle.preservation.proofs.FineKept.{stop-fine, drop-fine}
 use Rattle.preservation.proofs.FoldKept.{fold-kept, fold-fine, declared-there, gone}
 use Rattle.preservation.proofs.Unseen.{stop-same, drop-same}
+use Rattle.preservation.proofs.Declared.{declared-none}
+use Rattle.preservation.proofs.Sums.{fold-declared, stop-declared, drop-sum}
 
 erase-at : {Value : Type 0} (x y : Bool) (u w z : Value) → (x ≡ false → y ≡ false) → cond x u (cond y w z) ≡ cond x u z
 erase-at true y u w z h = refl
@@ -59,34 +61,11 @@ module _ {Value Rest : Type 0} (V′ : ℕ → Bool) (u : Value) where
 
 -- no move declares a name
 module _ (f : File) (a : ℕ) where
-  abbrev D : Declarator → ℕ
-  D d = one (eqb (d .name) a)
-
-  fold-declared : {P Q : List Statement} {φ : Fold} → FoldAt (contextOf f) P Q φ → declarations a Q ≤ declarations a P
-  fold-declared {P = P} {Q = Q} {φ = φ} m =
-      let x = ap (total D (λ t. 0)) (m .from) ∙ fold-total D (λ t. 0) (m .before) (m .kind) (m .earlier) (record { name = φ .name; initializer = given (φ .initializer) }) (m .place) (φ .into) (m .after) in
-      let y = ap (total D (λ t. 0)) (m .into) ∙ site-total D (λ t. 0) (m .before) (m .kind) (m .earlier) (m .place) (m .tree) (m .after) in
-      let z = there-declared a (m .place) (φ .into) (m .tree) in
-      omega (arith, x, y, z)
-
-  stop-declared : {P Q : List Statement} → StopAt (contextOf f) P Q → declarations a Q ≤ declarations a P
-  stop-declared m =
-      let x = ap (total D (λ t. 0)) (m .from) ∙ site-total D (λ t. 0) (m .before) (m .kind) (m .earlier) (m .place) (m .old) (m .after) in
-      let y = ap (total D (λ t. 0)) (m .into) ∙ site-total D (λ t. 0) (m .before) (m .kind) (m .earlier) (m .place) (m .new) (m .after) in
-      let z = there-declared a (m .place) (m .old) (m .new) in
-      omega (arith, x, y, z)
-
-  drop-declared : {P Q : List Statement} → DropAt (contextOf f) P Q → declarations a Q ≤ declarations a P
-  drop-declared m =
-      let x = ap (total D (λ t. 0)) (m .from) ∙ drop-total D (λ t. 0) (m .before) (m .kind) (m .after) in
-      let y = ap (total D (λ t. 0)) (m .into) in
-      omega (arith, x, y)
-
   moves-declared : {P Q : List Statement} {φs : List Fold} → Moves (contextOf f) P Q φs → declarations a Q ≤ declarations a P
   moves-declared (done e g) = rw e (omega arith)
-  moves-declared (fold M φ ψs m e k) = let x = fold-declared m in let y = moves-declared k in omega (arith, x, y)
-  moves-declared (halt M m k) = let x = stop-declared m in let y = moves-declared k in omega (arith, x, y)
-  moves-declared (drop M m k) = let x = drop-declared m in let y = moves-declared k in omega (arith, x, y)
+  moves-declared (fold M φ ψs m e k) = let x = fold-declared m a in let y = moves-declared k in omega (arith, x, y)
+  moves-declared (halt M m k) = let x = stop-declared m a in let y = moves-declared k in omega (arith, x, y)
+  moves-declared (drop M m k) = let x = drop-sum m (declaring a) (λ t. 0) in let y = moves-declared k in omega (arith, x, y)
 
 -- the folded names are declared in the file, and not in what is left
 abbrev Gone : File → List Statement → Fold → Type 0

@@ -1,7 +1,7 @@
--- The facts of one name as equations: what isn't done through the name neither reads nor writes it.
+-- The facts of one name as equations: what isn't done through it neither reads nor writes it.
 use Prim.Native.Nat.{ℕ}
 use mathlib.Core.Bool.{Bool, true, false, cond}
-use mathlib.Core.Path.{_≡_, refl, sym, ap, _∙_, fun-ext}
+use mathlib.Core.Path.{_≡_, refl, ap, _∙_, fun-ext}
 use lib.Dec.{eqb}
 use borrow.Author.Tests.{eqb-true, eq-eqb}
 use Rattle.records.specs.File.{File}
@@ -45,6 +45,7 @@ module _ {Value Rest : Type 0} (v : ℕ) (a : Value) where
   unfolding set
   set-here s = rw (eq-eqb v v refl)
 
+-- what the facts of a file say of such a name
 pub blinds : {Value Rest : Type 0} {f : File} {trace : List Fold} {m : Meaning Value Rest} {start : Store Value Rest} (v : ℕ) → Facts f trace m start → readsStand f v ≡ true → writesStand f v ≡ true → Blinds m v
 blinds {m = m} v facts r w = record {
   reads = λ x e s a. facts .reads-hidden v r x e (set v a s) s (set-agrees v a s);

@@ -19,7 +19,7 @@ cleared n = record {
   position = n .position;
 }
 
--- "Kinds 6, 7 and 20 always count as marked." (20 has a form of its own below.)
+-- "Kinds 6, 7 and 20 always count as marked." (20 has a form of its own below. ECMA-262: await 15.8.5, yield 15.5.5.)
 unfoldable pub isMarked : Node → Bool
 isMarked n = marked (n .flags) || is 6 n || is 7 n
 
@@ -27,18 +27,20 @@ isMarked n = marked (n .flags) || is 6 n || is 7 n
 unfoldable pub isMember : Node → Bool
 isMember n = is 10 n || is 11 n || is 12 n
 
--- `delete`: a unary node with label 1
+-- `delete`: a unary node with label 1 (ECMA-262 13.5.1.2)
 unfoldable pub isDelete : Node → Bool
 isDelete n = is 9 n && eqb (n .label) 1
 
 -- What is chosen when the first child has run: nothing; whether the second runs, in a logical expression or a compound
--- assignment; which of the two others runs; whether the chain goes on.
+-- assignment; which of the two others runs; whether the chain goes on (ECMA-262 13.13.1, 13.15.2, 13.14.1, 13.3.9.1).
 pub data Choice : Type 0 where
   never logical conditional optionally : Choice
 
 -- constant: 1 literal, 2 function, 27 elision. name: 4. targetName: 29. leaf: the other kinds without children, 0, 3, 5
 -- and 30. chain: 13. property: 26 with one child. importing: 8. sequence: 28. assignment: 20, compound or not. stepping:
--- every other kind, with what it chooses.
+-- every other kind, with what it chooses. (ECMA-262: literals 13.2.3.1, functions 15.2.6, elisions 13.2.4.1, names 13.1.3,
+-- classes 15.7.16, `this` 13.2.1.1, chains 13.3.9.1, properties 13.2.5.5, imports 13.3.10.1, sequences 13.16.1, assignments
+-- 13.15.2.)
 pub data Form : Type 0 where
   constant name targetName leaf chain property importing sequence : Form
   assignment : Bool → Form

@@ -3,13 +3,15 @@
 use Prim.Native.Nat.{ℕ}
 use mathlib.Core.List.{List, [], _∷_}
 
--- the key of a member: the label of a static (10) or a private one (11), the value of a computed one (12)
+-- the key of a member: the label of a static (10) or a private one (11), the value of a computed one (12) (ECMA-262 13.3.2.1,
+-- 13.3.3, 13.3.4)
 pub data Key (Value : Type 0) : Type 0 where
   static private : ℕ → Key Value
   computed : Value → Key Value
 
 -- What a child gives beside its value: nothing; that it is bare `eval`; the number of a target name (29); the label of an
--- opaque target (30); a member's object and key. So a name's number and a label are never mixed up.
+-- opaque target (30); a member's object and key. So a name's number and a label are never mixed up. (ECMA-262 6.2.5: a
+-- reference has a base and a name, and an assignment, a deletion or a call of it goes by both.)
 pub data Beside (Value : Type 0) : Type 0 where
   nothing bareEval : Beside Value
   targetName opaqueTarget : ℕ → Beside Value

@@ -4,7 +4,7 @@ use mathlib.Core.Bool.{Bool}
 use Rattle.runs.specs.Store.{Store}
 use Rattle.runs.specs.Step.{Step}
 
--- "A marked step may change the store or stop"
+-- "A marked step may change the store or stop" (ECMA-262 6.2.4: an abrupt completion)
 pub data Act (Value Rest : Type 0) : Type 0 where
   done : Value → Store Value Rest → Act Value Rest
   stops : Act Value Rest
@@ -12,8 +12,8 @@ pub data Act (Value Rest : Type 0) : Type 0 where
 pub record Meaning (Value Rest : Type 0) : Type 0 where
   -- the value of a bare let, and of a chain that is cut short
   pub undefined : Value
-  -- "Literals and functions don't read the store" (1, 2). Nor does an elision (27), which does nothing, nor a property of
-  -- one child (26), which defines a property of a fresh object (ECMA-262 13.2.4.1, 13.2.5.5).
+  -- "Literals and functions don't read the store" (1, 2; ECMA-262 13.2.3.1, 15.2.6). Nor does an elision (27), which does
+  -- nothing (13.2.4.1), nor a property of one child (26), which defines a property of a fresh object (13.2.5.5).
   pub constant : Step Value → Value
   -- "an unmarked one reads only"
   pub reads : Step Value → Store Value Rest → Value

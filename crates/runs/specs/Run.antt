@@ -39,9 +39,10 @@ isRead value = true
 isRead target = false
 isRead deleted = true
 
--- What a node has in hand of its first child beside its value. A call: that its callee is bare `eval` (ECMA-262 13.3.6.1).
--- An assignment: its target name or opaque target. "A member called, tagged, deleted or assigned to": its object and key,
--- which a chain over it hands on (13.2.9.2: parentheses keep the reference).
+-- What a node has in hand of its first child beside its value. "A call step depends on whether its callee is a member, bare
+-- `eval`, or neither; a tag step, on whether its tag is a member" (ECMA-262 13.3.6.1 and 13.3.6.2, 13.3.11.1). An assignment:
+-- its target name or opaque target (13.15.2). "A member called, tagged, deleted or assigned to": its object and key (13.5.1.2
+-- for `delete`), which a chain over it hands on (13.2.9.2: parentheses keep the reference).
 unfoldable pub kept : {Value : Type 0} → Form → Node → Beside Value → Beside Value
 kept f n nothing = nothing
 kept f n bareEval = cond (is 14 n) bareEval nothing
@@ -67,8 +68,9 @@ caught (stop l) = stop l
 unfoldable pub gathered : {Value Rest : Type 0} → Form → Out Value Rest (Hand Value) → Part Value Rest (Hand Value)
 gathered f o s = cond (childless f) (gave [] s) (cond (isChain f) (caught o) o)
 
--- "logical, conditional and optional forms run what the standard runs": ECMA-262 13.13.1, 13.14.1, 13.3.9.1, and 13.15.2 for
--- compound assignments. Cut short, a node and those above it up to the chain make no step and run no further child.
+-- "logical, conditional and optional forms run what the standard runs": ECMA-262 13.13.1, 13.14.1, 13.3.9.1 with 13.3.9.2,
+-- and 13.15.2 for compound assignments. Cut short, a node and those above it up to the chain make no step and run no further
+-- child.
 unfoldable pub chosen : {Value Rest : Type 0} → Choice → Bool → (Turn → Part Value Rest (Hand Value)) → Part Value Rest (Hand Value)
 chosen never b others s = others all s
 chosen logical true others s = others all s
@@ -88,11 +90,12 @@ module _ {Value Rest : Type 0} (m : Meaning Value Rest) where
   stepped true x s = acted (listed x (s .log)) (m .acts x (s .store))
   stepped false x s = gave (m .reads x (s .store)) s
 
-  -- "An import's step, marked or not, is compared as a marked one but only queues a load that no read sees."
+  -- "An import's step, marked or not, is compared as a marked one but only queues a load that no read sees." (ECMA-262
+  -- 13.3.10.1 also converts what is imported to a string, which this leaves out.)
   unfoldable pub queued : Step Value → Part Value Rest Value
   queued x s = gave (m .reads x (s .store)) (record { store = s .store; log = listed x (s .log) })
 
-  -- what the store holds for a name; else the node's step
+  -- what the store holds for a name (ECMA-262 13.1.3, 9.4.2); else the node's step
   unfoldable pub held : Bool → Node → Step Value → Part Value Rest Value
   held true n x s = gave (s .store .names (n .label)) s
   held false n x s = stepped (isMarked n) x s
@@ -139,8 +142,10 @@ module _ {Value Rest : Type 0} (names : List NameFacts) (m : Meaning Value Rest)
       (λ w s′. gave (record { value = w; beside = beside f n hs }) s′)
 
   -- "Children run left to right, then the node's own step" (ECMA-262: arrays 13.2.4.2, objects 13.2.5.4, templates 13.2.8.6,
-  -- members 13.3.2.1, new 13.3.5.1, calls 13.3.6.1, import calls 13.3.10.1, tagged templates 13.3.11.1, sequences 13.16.1;
-  -- "a plain member assignment evaluates object and key, then the value": 13.15.2)
+  -- members 13.3.2.1, new 13.3.5.1, calls 13.3.6.1, their arguments and spreads 13.3.8.1, import calls 13.3.10.1, tagged
+  -- templates 13.3.11.1, unary operators 13.5, binary ones 13.15.4, private-in 13.10.1, await 15.8.5, yield 15.5.5, sequences
+  -- 13.16.1; "a plain member assignment evaluates object and key, then the value": 13.15.2). A property's computed key is
+  -- converted by the property's step, behind the value; 13.2.5.5 converts it before.
   unfoldable pub runNode : Form → Node → Role → Part Value Rest (Hand Value) → Part Value Rest (Given Value)
   runNode f n role children s = bind (gathered f (children s) s) (finished f n role)
 

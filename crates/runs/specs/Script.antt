@@ -30,8 +30,8 @@ module _ {Value Rest : Type 0} (m : Meaning Value Rest) where
   unfoldable pub binds : DeclarationKind → ℕ → Hand Value → Part Value Rest (Unit {0})
   binds k name hs s = bind (stepped m true (record { origin = ofDeclarator k name; hand = hs }) s) (λ w s′. gave tt s′)
 
-  -- "a bare let undefined; a bare var sets nothing, nor does a bare const or pattern, which no script has"; "Any using makes
-  -- a marked step"
+  -- "a bare let undefined; a bare var sets nothing, nor does a bare const or pattern, which no script has" (ECMA-262 14.3.1.2,
+  -- 14.3.2.1); "Any using makes a marked step"
   unfoldable pub declaresBare : DeclarationKind → ℕ → Part Value Rest (Unit {0})
   declaresBare Var name s = gave tt s
   declaresBare Let name s = sets name (m .undefined) s
@@ -39,8 +39,8 @@ module _ {Value Rest : Type 0} (m : Meaning Value Rest) where
   declaresBare Using name s = binds Using name [] s
   declaresBare AwaitUsing name s = binds AwaitUsing name [] s
 
-  -- "Any other declarator sets its name"; "a pattern with an initializer .. makes a marked step"; "A declarator's step has
-  -- its initializer's value in hand"
+  -- "Any other declarator sets its name" (ECMA-262 14.3.1.2, 14.3.2.1); "a pattern with an initializer .. makes a marked step"
+  -- (8.6.2); "A declarator's step has its initializer's value in hand"
   unfoldable pub declaresWith : DeclarationKind → ℕ → Value → Part Value Rest (Unit {0})
   declaresWith Var name w s = cond (isPattern name) (binds Var name (only w ∷ []) s) (sets name w s)
   declaresWith Let name w s = cond (isPattern name) (binds Let name (only w ∷ []) s) (sets name w s)
@@ -58,7 +58,7 @@ module _ {Value Rest : Type 0} (names : List NameFacts) (m : Meaning Value Rest)
   runDeclarators k (d ∷ ds) s = bind (runDeclarator k (d .name) (d .initializer) s) (λ u s′. runDeclarators k ds s′)
 
   -- "An expression statement gives its tree's value, a kind 6 statement its step's; a declaration, or a statement not
-  -- finished, gives nothing." "a kind 6 statement's step [has] none" in hand.
+  -- finished, gives nothing" (ECMA-262 14.5.1, 14.3). "a kind 6 statement's step [has] none" in hand.
   unfoldable pub runStatement : Statement → Part Value Rest (Unit {0})
   runStatement (declaration k ds) s = runDeclarators k ds s
   runStatement (expression t) s = bind (run names m t value s) (λ x s′. gives (x .value) s′)

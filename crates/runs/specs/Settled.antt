@@ -22,10 +22,12 @@ isVar flags = bit 8 flags
 abbrev pub crosses : File → ℕ → Bool
 crosses f own = readCrossesFunctionBoundary (f .scopes) (f .currentScope) own
 
--- a name of the file that isn't unsettled
+-- a name of the file that isn't unsettled: "A name is unsettled if it is unresolved, an import, of scope 0 in a script,
+-- written .., or block scoped and read across a function scope."
 unfoldable pub settled : File → ℕ → Bool
 settled f a = ltb a (length (f .names)) && not (unsettled (contextOf f) a)
 
--- whether `this` blocks at a position
+-- whether `this` blocks at a position: "`this` blocks if a `this` scope is given and either no frame has it, or no frame from
+-- the last such one onward was initialised at or before the node's position."
 abbrev pub thisBlocks : File → ℕ → Bool
 thisBlocks f position = thisBlocksAt (f .thisScope) (f .frames) position

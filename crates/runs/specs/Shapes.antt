@@ -32,7 +32,7 @@ declaredIn a (d ∷ ds) = eqb (d .name) a || declaredIn a ds
 abbrev pub declared : File → ℕ → Bool
 declared f a = declaredIn a (allDeclarators (f .statements))
 
--- (P) "a template (23) with two or more substitutions"
+-- (P) "a template (23) with two or more substitutions" (ECMA-262 13.2.8.6: each is converted before the next is evaluated)
 unfoldable pub shapeP : File → Bool
 shapeP f = someNode f (λ n kids. eqb (n .kind) 23 && leb 2 (count kids))
 
@@ -40,7 +40,7 @@ unfoldable pub firstDeclared : File → Trees → Bool
 firstDeclared f none = false
 firstDeclared f (more t ts) = eqb (root t .kind) 4 && declared f (root t .label)
 
--- (Q) "`typeof` directly over a declared name"
+-- (Q) "`typeof` directly over a declared name" (ECMA-262 13.5.3.1: an unresolvable name is no error there)
 unfoldable pub shapeQ : File → Bool
 shapeQ f = someNode f (λ n kids. eqb (n .kind) 9 && eqb (n .label) 2 && firstDeclared f kids)
 
@@ -52,7 +52,7 @@ unfoldable pub someEval : List NameFacts → List Declarator → Bool
 someEval facts [] = false
 someEval facts (d ∷ ds) = evalWhole facts (d .initializer) || someEval facts ds
 
--- (R) "unresolved `eval` as a whole initializer"
+-- (R) "unresolved `eval` as a whole initializer" (ECMA-262 13.3.6.1: a call of bare `eval` is a direct one)
 unfoldable pub shapeR : File → Bool
 shapeR f = someEval (f .names) (allDeclarators (f .statements))
 

@@ -4,7 +4,8 @@ use Rattle.records.specs.File.{DeclarationKind}
 use Rattle.runs.specs.Hand.{Hand}
 
 -- What a member or a target is evaluated for: its value; a plain assignment to it; its deletion. (For the last two ECMA-262
--- reads no property, 13.15.2 and 13.5.1.2, so what is given there may be another value.)
+-- reads no property, 13.15.2 and 13.5.1.2, so what is given there may be another value. For its value a member is read:
+-- 13.3.2.1, 6.2.5.5.)
 pub data Role : Type 0 where
   value target deleted : Role
 

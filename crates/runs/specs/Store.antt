@@ -3,7 +3,8 @@ use Prim.Native.Nat.{ℕ}
 use mathlib.Core.Bool.{cond}
 use lib.Dec.{eqb}
 
--- Values are of any type, of which "none" is one; so is what else a store holds.
+-- Values are of any type, of which "none" is one; so is what else a store holds. (ECMA-262 9.1: a name's value stands in an
+-- environment record.)
 pub record Store (Value Rest : Type 0) : Type 0 where
   pub names : ℕ → Value
   pub rest : Rest

@@ -1,22 +1,21 @@
--- A fold keeps what acceptance says of trees: each child stands where it may, and each node is good by itself.
-use Prim.Native.Nat.{ℕ, _+_, _-_, _/_, _%_, _≤_, _<_}
-use native.Mathlib.Omega.{arith}
-use mathlib.Core.Bool.{Bool, true, false, cond, _&&_, _||_, not}
-use mathlib.Core.List.{List}
-use mathlib.Core.Path.{_≡_, refl, sym, ap, _∙_, subst}
-use lib.Dec.{eqb, ltb, leb}
-use borrow.Author.Tests.{eqb-true, eq-eqb, ne-eqb, eqb-false, ltb-true, lt-ltb}
-use Rattle.records.specs.Flags.{marked, optional, anonymous, compound, shorthand, computed, proto}
+-- A fold keeps each child where it may stand: row 8 of the refusal table, for the tree that a search makes.
+use Prim.Native.Nat.{ℕ, _+_}
+use mathlib.Core.Bool.{Bool, true, false, cond, _&&_, _||_, not, or-true}
+use mathlib.Core.Path.{_≡_, refl, sym, ap, subst}
+use lib.Dec.{eqb}
+use borrow.Author.Tests.{eqb-true}
+use Rattle.records.specs.Flags.{optional, shorthand}
 use Rattle.records.specs.Node.{isLink}
-use Rattle.records.specs.Tree.{Node, Tree, Trees, node, none, more, count}
+use Rattle.records.specs.Tree.{Node, Tree, Trees, node, none, more}
 use Rattle.records.specs.Place.{root, isExpression, mayStand, loose, looseFirst, mayBeLoose, standUnder, placed, allPlaced}
 use Rattle.walk.specs.Shape.{is, cleared}
 use Rattle.walk.specs.Substitute.{at, preserveIndirectAccess, isSpecificId}
-use Rattle.runs.specs.Shapes.{someIn, someOf}
-use Rattle.preservation.proofs.Tables.{and-true, by-or, clash, and-off, unshort, walked-cleared}
+use Rattle.preservation.proofs.Tests.{and-true, clash}
+use Rattle.preservation.proofs.Tables.{unshort, walked-cleared, link-cleared}
 use Rattle.preservation.proofs.At.{placedAt}
-use Rattle.preservation.proofs.Kept.{stands, under as below}
+use Rattle.preservation.proofs.Kept.{stands, under as below, in-row}
 use Rattle.preservation.proofs.Turned.{Turned, same, here, apart, under, AllTurned, no-more, both}
+use Rattle.preservation.proofs.Uses.{specific}
 
 -- Where the name may stand, so may any expression, its parent's shorthand cleared.
 rows : (a b c d e f x y z : Bool) → cond a false (cond b false (cond c false (cond d true (cond e true (cond f true true))))) ≡ true → cond a x (cond b y (cond c z (cond e true (cond f true true)))) ≡ true
@@ -48,10 +47,6 @@ other-rows false n i k e h = unfold cleared in rw e h
 
 pub still-stands : (n : Node) (i k : ℕ) → mayStand (n .kind) (n .flags) i k ≡ true → mayStand (n .kind) (cleared n .flags) i k ≡ true
 still-stands n i k h = other-rows (is 26 n && shorthand (n .flags)) n i k refl h
-
-specific : (v : ℕ) (n : Node) → isSpecificId v n ≡ true → n .kind ≡ 4
-unfolding isSpecificId
-specific v n e = eqb-true (n .kind) 4 (and-true (is 4 n) (eqb (n .label) v) e .0)
 
 at-kind : (p : ℕ) (t : Tree) → root (at p t) .kind ≡ root t .kind
 unfolding at
@@ -87,11 +82,7 @@ unfolding preserveIndirectAccess placed standUnder mayStand isExpression loose
 apart-placed (node n ts) e l p = rw (e, l, p)
 
 optional-cleared : (n : Node) → (isLink (n .kind) && optional (cleared n .flags)) ≡ (isLink (n .kind) && optional (n .flags))
-optional-cleared n = by (is 26 n) refl
-  where
-    by : (b : Bool) → is 26 n ≡ b → (isLink (n .kind) && optional (cleared n .flags)) ≡ (isLink (n .kind) && optional (n .flags))
-    by true e = rw (eqb-true (n .kind) 26 e)
-    by false e = unfold cleared in rw e
+optional-cleared n = subst (λ c. (isLink (n .kind) && optional (c .flags)) ≡ (isLink (n .kind) && optional (n .flags))) (sym (walked-cleared n)) (link-cleared n)
 
 loose-by : (l o o′ x x′ : Bool) → (l && o′) ≡ (l && o) → (x ≡ false → x′ ≡ false) → (l && (o || x)) ≡ false → (l && (o′ || x′)) ≡ false
 loose-by true true o′ x x′ e h g = clash true g refl
@@ -114,8 +105,8 @@ module _ (v : ℕ) (r : Tree) (fit : isExpression (root r .kind) ≡ true) (well
   -- the kind at the root: the same, or any expression's where it was the name's
   pub stands-turned : {k : ℕ} {t u : Tree} → Turned v r k t u → (n : Node) (i : ℕ) → mayStand (n .kind) (n .flags) i (root t .kind) ≡ true → mayStand (n .kind) (cleared n .flags) i (root u .kind) ≡ true
   stands-turned (same e p) n i h = rw p (still-stands n i _ h)
-  stands-turned (here {n = x} e g p) n i h = rw (p, at-kind (x .position) r) (any-expression n i (root r .kind) (rw (specific v x g) at h) fit)
-  stands-turned (apart {t = t} t′ e g w p) n i h = rw (p, apart-kind t′) (any-expression n i 28 (rw (specific v (root t) g) at h) kind-28)
+  stands-turned (here {n = x} e g p) n i h = rw (p, at-kind (x .position) r) (any-expression n i (root r .kind) (rw (specific v x g .0) at h) fit)
+  stands-turned (apart {t = t} t′ e g w p) n i h = rw (p, apart-kind t′) (any-expression n i 28 (rw (specific v (root t) g .0) at h) kind-28)
   stands-turned (under {n = x} ts′ w p) n i h = rw p (unfold cleared in still-stands n i (x .kind) h)
 
   pub expression-turned : {k : ℕ} {t u : Tree} → Turned v r k t u → isExpression (root t .kind) ≡ true → isExpression (root u .kind) ≡ true
@@ -142,10 +133,6 @@ module _ (v : ℕ) (r : Tree) (fit : isExpression (root r .kind) ≡ true) (well
   loose-or : (x y z : Bool) → (x ≡ false → y ≡ false) → (not x || z) ≡ true → (not y || z) ≡ true
   loose-or false y z h e = rw (h refl)
   loose-or true y true h e = or-true (not y)
-    where
-      or-true : (b : Bool) → (b || true) ≡ true
-      or-true true = refl
-      or-true false = refl
   loose-or true y false h e = clash false refl e
 
   stand-more : (n : Node) (i : ℕ) (t t′ : Tree) (ts′ : Trees) → mayStand (n .kind) (cleared n .flags) i (root t′ .kind) ≡ true → (not (loose t′) || mayBeLoose (n .kind) i) ≡ true → standUnder (cleared n) (i + 1) ts′ ≡ true → standUnder (cleared n) i (more t′ ts′) ≡ true
@@ -164,13 +151,9 @@ module _ (v : ℕ) (r : Tree) (fit : isExpression (root r .kind) ≡ true) (well
   unfolding placed
   place-more t ts a b = rw (a, b)
 
-  place-parts : (t : Tree) (ts : Trees) → allPlaced (more t ts) ≡ true → (placed t ≡ true) × (allPlaced ts ≡ true)
-  unfolding placed
-  place-parts t ts h = and-true (placed t) (allPlaced ts) h
-
   name-expression : (v : ℕ) (t : Tree) → isSpecificId v (root t) ≡ true → isExpression (root t .kind) ≡ true
   unfolding isExpression
-  name-expression v t e = rw (specific v (root t) e)
+  name-expression v t e = rw (specific v (root t) e .0)
 
   row-turned : {k : ℕ} {ts us : Trees} → AllTurned v r k ts us → (n : Node) (i : ℕ) → standUnder n i ts ≡ true → standUnder (cleared n) i us ≡ true
   row-turned (no-more e) n i h = stand-none (cleared n) i
@@ -179,12 +162,13 @@ module _ (v : ℕ) (r : Tree) (fit : isExpression (root r .kind) ≡ true) (well
       stand-more n i t t′ ts′ (stands-turned w n i x) (loose-or (loose t) (loose t′) (mayBeLoose (n .kind) i) (λ q. loose-turned w q) y) (row-turned g n (i + 1) z)
 
   mutual
+    -- each child stands where it may
     pub placed-turned : {k : ℕ} {t u : Tree} → Turned v r k t u → placed t ≡ true → placed u ≡ true
     placed-turned (same e p) h = rw p h
     placed-turned (here {n = x} e g p) h = rw (p, at-placed (x .position) r) well
-    placed-turned (apart {t = t} t′ e g w p) h = rw p (apart-placed t′ (expression-turned w (name-expression v t g)) (loose-turned w (name-tight t (specific v (root t) g))) (placed-turned w h))
+    placed-turned (apart {t = t} t′ e g w p) h = rw p (apart-placed t′ (expression-turned w (name-expression v t g)) (loose-turned w (name-tight t (specific v (root t) g .0))) (placed-turned w h))
     placed-turned (under {n = x} {ts = ts} ts′ w p) h = rw p (place-node (cleared x) ts′ (row-turned w x 0 (below x ts h .0)) (all-placed-turned w (below x ts h .1)))
 
     pub all-placed-turned : {k : ℕ} {ts us : Trees} → AllTurned v r k ts us → allPlaced ts ≡ true → allPlaced us ≡ true
     all-placed-turned (no-more e) h = h
-    all-placed-turned (both {t = t} {t′ = t′} {ts = ts} {ts′ = ts′} i j e w g) h = place-more t′ ts′ (placed-turned w (place-parts t ts h .0)) (all-placed-turned g (place-parts t ts h .1))
+    all-placed-turned (both {t = t} {t′ = t′} {ts = ts} {ts′ = ts′} i j e w g) h = place-more t′ ts′ (placed-turned w (in-row t ts h .0)) (all-placed-turned g (in-row t ts h .1))
