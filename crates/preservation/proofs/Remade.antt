@@ -18,7 +18,7 @@ use Rattle.walk.specs.Shape.{is, cleared as walked}
 use Rattle.walk.specs.Substitute.{at, preserveIndirectAccess}
 use Rattle.runs.specs.Form.{cleared}
 use Rattle.preservation.proofs.Tests.{and-true, clash}
-use Rattle.preservation.proofs.Tables.{zero-bit, marked-by, short-by, two-at, clearedFlags, walked-cleared}
+use Rattle.preservation.proofs.Tables.{zero-bit, marked-by, short-by, two-at, gains, clearedFlags, walked-cleared}
 use Rattle.preservation.proofs.At.{placedAt}
 use Rattle.preservation.proofs.WellMade.{wellMade, allWellMade, well-node, well-more, make-node, make-more}
 use Rattle.preservation.proofs.Turned.{Turned, same, here, apart, under, AllTurned, no-more, both}
@@ -89,7 +89,7 @@ cleared-flags f c l p s h =
     let (x, y₁, y₂, y₃, y₄) = flag-tests f c l p h in
     let e : f / 16 % 2 ≡ 1 = eqb-true (f / 16 % 2) 1 s in
     let d : f / 32 % 2 ≡ 0 = zero-bit (f / 32) (eqb-false (f / 32 % 2) 1 (uncomputed (shorthand f) (computed f) s y₄)) in
-    good-flags f (clearedFlags f) c l p (lt-ltb _ 128 (small-by f (proto f) e d (ltb-true f 128 x))) (low-2 f (proto f) e) (low-4 f (proto f) e) (low-8 f (proto f) e) (short-by f (proto f) s) h
+    good-flags f (clearedFlags f) c l p (lt-ltb _ 128 (small-by f (gains f) e d (ltb-true f 128 x))) (low-2 f (gains f) e) (low-4 f (gains f) e) (low-8 f (gains f) e) (short-by f (gains f) s) h
   where
     uncomputed : (x y : Bool) → x ≡ true → (not x || not y) ≡ true → y ≡ false
     uncomputed true true e g = sym g
@@ -119,7 +119,7 @@ module _ (names : List NameFacts) where
   good-by : (b : Bool) (n : Node) (k : ℕ) → (is 26 n && shorthand (n .flags)) ≡ b → goodNode names (recordOf n k) ≡ true → goodNode names (recordOf (withFlags (cond b (clearedFlags (n .flags)) (n .flags)) n) k) ≡ true
   good-by true n k e h =
       let (p, q) = and-true (is 26 n) (shorthand (n .flags)) e in
-      good-with n k (clearedFlags (n .flags)) h (marked-by (n .flags) (proto (n .flags)) q) (two-at true (n .flags) q) (by-kind (eqb-true (n .kind) 26 p) q (flags-of n k h))
+      good-with n k (clearedFlags (n .flags)) h (marked-by (n .flags) (gains (n .flags)) q) (two-at true (n .flags) q) (by-kind (eqb-true (n .kind) 26 p) q (flags-of n k h))
     where
       by-kind : n .kind ≡ 26 → shorthand (n .flags) ≡ true → goodFlags (recordOf n k) ≡ true → goodFlags (recordOf (withFlags (clearedFlags (n .flags)) n) k) ≡ true
       by-kind p q g = unfold recordOf in subst (λ x. goodFlags (record { kind = x; flags = clearedFlags (n .flags); label = n .label; children = k; zero = 0; position = n .position }) ≡ true) (sym p) (cleared-flags (n .flags) k (n .label) (n .position) q (subst (λ x. goodFlags (record { kind = x; flags = n .flags; label = n .label; children = k; zero = 0; position = n .position }) ≡ true) p g))

@@ -97,9 +97,12 @@ shape-kinds n = passes (shape-taken n (is 9 n && eqb (n .label) 1) refl)
 pub bit-same : (w f g : ℕ) → f / w % 2 ≡ g / w % 2 → bit w f ≡ bit w g
 bit-same w f g e = ap (λ z. eqb z 1) e
 
--- the flags of a property whose shorthand is cleared
+-- whether a shorthand gains bit 5, and the flags of a property whose shorthand is cleared
+abbrev pub gains : ℕ → Bool
+gains f = proto f && not (computed f)
+
 abbrev pub clearedFlags : ℕ → ℕ
-clearedFlags f = cond (proto f) (f + 16) (f - 16)
+clearedFlags f = cond (gains f) (f + 16) (f - 16)
 
 pub marked-by : (f : ℕ) (p : Bool) → shorthand f ≡ true → marked (cond p (f + 16) (f - 16)) ≡ marked f
 marked-by f true e = bit-same 1 (f + 16) f (omega arith)
@@ -119,25 +122,24 @@ halves f g h e = omega arith
 halved : (f g : ℕ) → g / 32 ≡ f / 32 → g / 64 ≡ f / 64
 halved f g e = omega arith
 
-odd-next : (x y : ℕ) → x % 2 ≡ 1 → y ≡ x + 1 → y % 2 ≡ 1 → ⊥
-odd-next x y h e g = omega arith
-
 pub zero-bit : (x : ℕ) → (x % 2 ≡ 1 → ⊥) → x % 2 ≡ 0
 zero-bit x h = omega (arith, h)
 
-two-by : (f : ℕ) (p c : Bool) → shorthand f ≡ true → proto f ≡ p → computed f ≡ c → twoChildren (cond p (f + 16) (f - 16)) ≡ (c && not p)
-two-by f true true s p c =
-    let z : computed (f + 16) ≡ false = ne-eqb ((f + 16) / 32 % 2) 1 (odd-next (f / 32) ((f + 16) / 32) (eqb-true (f / 32 % 2) 1 c) (carry f (eqb-true (f / 16 % 2) 1 s))) in
-    rw z
-two-by f true false s p c =
-    let i : f / 32 % 2 ≡ 0 = zero-bit (f / 32) (eqb-false (f / 32 % 2) 1 c) in
-    let z : proto (f + 16) ≡ proto f = bit-same 64 (f + 16) f (ap (λ x. x % 2) (halves f (f + 16) i (carry f (eqb-true (f / 16 % 2) 1 s)))) in
-    rw (z, p) (and-off (computed (f + 16)) false refl)
-two-by f false c s p e =
+-- a property has as many children without bit 4, and with bit 5 where it is gained
+two-without : (f : ℕ) → shorthand f ≡ true → twoChildren (f - 16) ≡ twoChildren f
+two-without f s =
     let h : (f - 16) / 32 ≡ f / 32 = above f (eqb-true (f / 16 % 2) 1 s) in
     let z : computed (f - 16) ≡ computed f = bit-same 32 (f - 16) f (ap (λ x. x % 2) h) in
     let y : proto (f - 16) ≡ proto f = bit-same 64 (f - 16) f (ap (λ x. x % 2) (halved f (f - 16) h)) in
-    rw (z, y, e, p)
+    rw (z, y)
+
+two-by : (f : ℕ) (p c : Bool) → shorthand f ≡ true → proto f ≡ p → computed f ≡ c → twoChildren (cond (p && not c) (f + 16) (f - 16)) ≡ twoChildren f
+two-by f true false s p c =
+    let i : f / 32 % 2 ≡ 0 = zero-bit (f / 32) (eqb-false (f / 32 % 2) 1 c) in
+    let z : proto (f + 16) ≡ proto f = bit-same 64 (f + 16) f (ap (λ x. x % 2) (halves f (f + 16) i (carry f (eqb-true (f / 16 % 2) 1 s)))) in
+    rw (z, p, c) (and-off (computed (f + 16)) false refl)
+two-by f true true s p c = two-without f s
+two-by f false c s p e = two-without f s
 
 pub short-by : (f : ℕ) (p : Bool) → shorthand f ≡ true → shorthand (cond p (f + 16) (f - 16)) ≡ false
 short-by f true e = let h = eqb-true (f / 16 % 2) 1 e in ne-eqb ((f + 16) / 16 % 2) 1 (omega arith)
@@ -145,12 +147,12 @@ short-by f false e = let h = eqb-true (f / 16 % 2) 1 e in ne-eqb ((f - 16) / 16 
 
 -- to clear a shorthand twice is to clear it once
 again : (b i : Bool) (f x : ℕ) → (i && shorthand f) ≡ b → cond (i && shorthand (cond b (clearedFlags f) f)) x (cond b (clearedFlags f) f) ≡ cond b (clearedFlags f) f
-again true i f x e = let z : (i && shorthand (clearedFlags f)) ≡ false = and-off i _ (short-by f (proto f) (and-true i _ e .1)) in rw z
+again true i f x e = let z : (i && shorthand (clearedFlags f)) ≡ false = and-off i _ (short-by f (gains f) (and-true i _ e .1)) in rw z
 again false i f x e = rw e
 
 -- a cleared node is no shorthand
 unshort-by : (b i : Bool) (f : ℕ) → (i && shorthand f) ≡ b → (i && shorthand (cond b (clearedFlags f) f)) ≡ false
-unshort-by true i f e = and-off i _ (short-by f (proto f) (and-true i _ e .1))
+unshort-by true i f e = and-off i _ (short-by f (gains f) (and-true i _ e .1))
 unshort-by false i f e = e
 
 pub unshort : (n : Node) → (is 26 n && shorthand (cleared n .flags)) ≡ false
@@ -169,7 +171,7 @@ walked-by false p f e = refl
 
 pub walked-cleared : (n : Node) → walked n ≡ cleared n
 unfolding walked cleared
-walked-cleared n = λ j. record { kind = n .kind; flags = walked-by (is 26 n && shorthand (n .flags)) (proto (n .flags)) (n .flags) (λ e. and-true (is 26 n) _ e .1) j; label = n .label; position = n .position }
+walked-cleared n = λ j. record { kind = n .kind; flags = walked-by (is 26 n && shorthand (n .flags)) (gains (n .flags)) (n .flags) (λ e. and-true (is 26 n) _ e .1) j; label = n .label; position = n .position }
 
 -- no link is a shorthand
 pub link-cleared : (n : Node) → (isLink (n .kind) && optional (cleared n .flags)) ≡ (isLink (n .kind) && optional (n .flags))
@@ -180,7 +182,7 @@ link-cleared n = by (is 26 n) refl
     by false e = unfold cleared in rw e
 
 marked-at : (b : Bool) (f : ℕ) → (b ≡ true → shorthand f ≡ true) → marked (cond b (clearedFlags f) f) ≡ marked f
-marked-at true f e = marked-by f (proto f) (e refl)
+marked-at true f e = marked-by f (gains f) (e refl)
 marked-at false f e = refl
 
 pub marked-cleared : (n : Node) → marked (cleared n .flags) ≡ marked (n .flags)

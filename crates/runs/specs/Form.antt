@@ -2,7 +2,7 @@
 use Prim.Native.Nat.{ℕ, _+_, _-_}
 use mathlib.Core.Bool.{Bool, true, false, cond, _&&_, _||_, not}
 use lib.Dec.{eqb, ltb}
-use Rattle.records.specs.Flags.{marked, optional, compound, shorthand, proto}
+use Rattle.records.specs.Flags.{marked, optional, compound, shorthand, computed, proto}
 use Rattle.records.specs.Node.{isLink, twoChildren}
 use Rattle.records.specs.Tree.{Node}
 use Rattle.runs.specs.Step.{Role, value, target, deleted, Origin, ofNode}
@@ -14,7 +14,7 @@ is kind n = eqb (n .kind) kind
 unfoldable pub cleared : Node → Node
 cleared n = record {
   kind = n .kind;
-  flags = cond (is 26 n && shorthand (n .flags)) (cond (proto (n .flags)) (n .flags + 16) (n .flags - 16)) (n .flags);
+  flags = cond (is 26 n && shorthand (n .flags)) (cond (proto (n .flags) && not (computed (n .flags))) (n .flags + 16) (n .flags - 16)) (n .flags);
   label = n .label;
   position = n .position;
 }

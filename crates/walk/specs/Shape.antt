@@ -1,8 +1,8 @@
 -- The kinds of nodes by what the search does at them, in one table, and the shorthand rule.
 use Prim.Native.Nat.{ℕ, _+_, _-_}
-use mathlib.Core.Bool.{Bool, cond, _&&_, _||_}
+use mathlib.Core.Bool.{Bool, cond, _&&_, _||_, not}
 use lib.Dec.{eqb}
-use Rattle.records.specs.Flags.{optional, compound, shorthand, proto}
+use Rattle.records.specs.Flags.{optional, compound, shorthand, computed, proto}
 use Rattle.records.specs.Node.{twoChildren}
 use Rattle.records.specs.Tree.{Node}
 
@@ -45,11 +45,12 @@ shape n =
     (cond ((isMemberExpression n || is 14 n) && optional (n .flags)) (steps cuts)  -- members and CallExpression, `optional`
     (steps never))))))))))))))
 
--- "A shorthand whose value walk gives an answer loses bit 4, and with bit 6 gains bit 5": such a node. Any other is unchanged.
+-- "A shorthand whose value walk gives an answer loses bit 4, and with bit 6 gains bit 5", if it hasn't got it: such a node.
+-- Any other is unchanged.
 unfoldable pub cleared : Node → Node
 cleared n = record {
   kind = n .kind;
-  flags = cond (is 26 n && shorthand (n .flags)) (n .flags - 16 + cond (proto (n .flags)) 32 0) (n .flags);
+  flags = cond (is 26 n && shorthand (n .flags)) (n .flags - 16 + cond (proto (n .flags) && not (computed (n .flags))) 32 0) (n .flags);
   label = n .label;
   position = n .position;
 }
