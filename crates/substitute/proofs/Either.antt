@@ -1,0 +1,33 @@
+-- A branch in which the search ended, and the other one.
+use Prim.Native.Nat.{_+_}
+use mathlib.Core.Bool.{Bool, true, false, cond, _||_}
+use mathlib.Core.Path.{_≡_, refl, sym, ap, _∙_}
+use Rattle.substitute.specs.declared.expression.Answer.{Answer}
+use Rattle.substitute.specs.declared.expression.Answer.the-variants.{Replaced, Stopped, Passed}
+use Rattle.substitute.specs.declared.expression.Walked.{Walked}
+use Rattle.substitute.specs.Answers.{isReplaced, Either}
+use Rattle.substitute.proofs.Planning.{clash}
+
+replaced-is : (a : Answer) → isReplaced a ≡ true → a ≡ Replaced
+replaced-is Replaced e = refl
+replaced-is Stopped e = clash false refl e
+replaced-is Passed e = clash false refl e
+
+module _ (a b r : Walked) where
+  pub either-replaced : r ≡ record { answer = b .answer; next = b .next; effect = a .effect || b .effect; place = b .place; indirect = b .indirect; looks = a .looks + b .looks } → isReplaced (b .answer) ≡ true → Either a b r
+  either-replaced e h = record {
+    answer = ap (λ w. w .answer) e ∙ replaced-is (b .answer) h ∙ sym (rw h refl);
+    next = ap (λ w. w .next) e;
+    place = λ g. ap (λ w. w .place) e;
+    indirect = λ g. ap (λ w. w .indirect) e;
+    looks = ap (λ w. w .looks) e;
+  }
+
+  pub either-stopped : r ≡ record { answer = Stopped; next = b .next; effect = false; place = b .next; indirect = false; looks = a .looks + b .looks } → isReplaced (b .answer) ≡ false → Either a b r
+  either-stopped e h = record {
+    answer = ap (λ w. w .answer) e ∙ sym (rw h refl);
+    next = ap (λ w. w .next) e;
+    place = λ g. clash (isReplaced (b .answer)) h g;
+    indirect = λ g. clash (isReplaced (b .answer)) h g;
+    looks = ap (λ w. w .looks) e;
+  }
