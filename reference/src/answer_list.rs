@@ -30,19 +30,19 @@ const ACCEPTED_KEPT: usize = 13;
 /// Of the files with several facts changed one in so many is kept.
 const FACTS_KEPT: usize = 2503;
 
-/// A list that is kept in a file.
+/// A list that is kept in files.
 pub struct List {
     /// From the directory of the reference.
-    pub path: &'static str,
+    pub paths: &'static [&'static str],
     pub cases: Vec<Case>,
 }
 
 /// The kept lists: the answers of the fold, and the whole tables of refusals and limits.
 pub fn lists() -> [List; 2] {
     [
-        List { path: "answers/answers.bin", cases: answer_cases() },
+        List { paths: &["answers/answers.bin", "../crates/folds/stdin"], cases: answer_cases() },
         List {
-            path: "../crates/refusals/stdin",
+            paths: &["../crates/refusals/stdin"],
             cases: refusals().into_iter().chain(limits()).collect(),
         },
     ]

@@ -1,5 +1,6 @@
 //! Files to judge, made anew at every run from seeds and tables.
 
+pub mod bytes;
 pub mod case;
 pub mod damage;
 pub mod exhaustive;

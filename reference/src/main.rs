@@ -1,33 +1,13 @@
-//! The Rust functions of oxc_minifier 0.157.0 as judge of the fold. `README.md` lists the commands.
-
-mod answer_list;
-mod answers;
-mod arena;
-mod ast;
-mod build;
-#[rustfmt::skip] // the text is that of the crate
-mod carried;
-mod checks;
-mod commands;
-mod context;
-mod convert;
-mod effects;
-mod fold;
-mod foldlist;
-mod generate;
-mod origin;
-mod random;
-mod record;
-mod refusal;
-mod scripts;
+//! The commands of the judge. `README.md` lists them.
 
 use std::io::{self, BufWriter, Read, Write};
 use std::path::Path;
 use std::process::ExitCode;
 
-use commands::batch::{FAMILIES, batch};
-use commands::check::{FULL, SHORT, check_all};
-use commands::write::write_all;
+use reference::commands::batch::{FAMILIES, batch};
+use reference::commands::check::{FULL, SHORT, check_all};
+use reference::commands::write::write_all;
+use reference::{answers, fold, foldlist, origin};
 
 /// The carried functions recurse, and a tree may be nearly 3,000 deep.
 const STACK_BYTES: usize = 512 << 20;

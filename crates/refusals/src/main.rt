@@ -3,12 +3,10 @@
 ghost use Prim.Native.Nat.{_≤_};
 ghost use lib.ListN.{length};
 
-mod entry;
-mod segment;
 mod tally;
 
-use entry::read_entry;
-use libc::STDOUT_FILENO;
+use answers::compare::compare;
+use answers::entry::read_entry;
 use refusal::answer::number_of;
 use refusal::check::refusal;
 
@@ -21,11 +19,11 @@ fn number_for(buf: &[u8], end: usize, room: usize) -> u8
 
 // The next entry of the list; false at its end.
 fn replay(
-    number: usize,
+    entry: usize,
     head: &mut [u8; 24],
     file: &mut [u8],
     spare: &mut [u8],
-    counts: &mut [u64; 12],
+    counts: &mut [usize; 12],
 ) -> bool
     requires { ⌜ 65536 ≤ length (now file) ⌝ }
     requires { ⌜ 65536 ≤ length (now spare) ⌝ }
@@ -36,7 +34,7 @@ fn replay(
     }
     let is = number_for(file, e.length, e.room);
     tally::add(counts, is);
-    tally::compare(number, e.said, is);
+    compare(entry, b" number ", e.number, is as usize);
     true
 }
 
@@ -44,7 +42,7 @@ fn main() {
     let mut head = [0u8; 24];
     let mut file = io::large_buffer();
     let mut spare = io::large_buffer();
-    let mut counts = [0u64; 12];
+    let mut counts = [0usize; 12];
     let mut entry = 0;
     while entry < 1000000 {
         if !replay(entry, &mut head, &mut file, &mut spare, &mut counts) {
@@ -52,8 +50,7 @@ fn main() {
         }
         entry += 1;
     }
-    io::write_all(STDOUT_FILENO, b"files ");
-    io::print_decimal(STDOUT_FILENO, entry as u64);
-    io::write_all(STDOUT_FILENO, b"\n");
+    lines::put(b"files ", entry);
+    lines::end(b"");
     tally::print(&counts);
 }

@@ -16,7 +16,7 @@ use records::layout::scope_at;
 use records::number::size;
 
 // A scope of the file; past the outermost one there is none, and none is a function's.
-fn scope_of(file: &[u8], h: Header, scope: ScopeId) -> Scope
+pub fn scope_of(file: &[u8], h: Header, scope: ScopeId) -> Scope
     requires { ⌜ h ≡ headerOf (now file) ⌝ }
     requires { ⌜ length (now file) ≡ fileLength h ⌝ }
     ensures { λ r. ⌜ r ≡ scopeOf (scopesOf (now (file .entry))) (scope .0) ⌝ }

@@ -17,7 +17,7 @@ use Rattle.statements.specs.Statements.{Kept, statementOf, inFileOrder, 
 use Rattle.statements.specs.Fold.{foldFile, foldedFile, withStatements}
 
 -- a sum over a list, in either order
-total : {A : Type 0} → (A → ℕ) → List A → ℕ
+unfoldable pub total : {A : Type 0} → (A → ℕ) → List A → ℕ
 total f [] = 0
 total f (x ∷ xs) = f x + total f xs
 
@@ -26,7 +26,7 @@ unfolding total
 total-onto f [] ys = omega arith
 total-onto f (x ∷ xs) ys = total-onto f xs (x ∷ ys) ∙ omega arith
 
-total-reverse : {A : Type 0} (f : A → ℕ) (xs : List A) → total f (reverse xs) ≡ total f xs
+pub total-reverse : {A : Type 0} (f : A → ℕ) (xs : List A) → total f (reverse xs) ≡ total f xs
 unfolding total
 total-reverse f xs = total-onto f xs [] ∙ omega arith
 
@@ -34,23 +34,23 @@ length-onto : {A : Type 0} (xs ys : List A) → length (reverseAux xs ys) ≡ le
 length-onto [] ys = omega arith
 length-onto (x ∷ xs) ys = length-onto xs (x ∷ ys) ∙ omega arith
 
-initializerSize : Initializer → ℕ
+unfoldable pub initializerSize : Initializer → ℕ
 initializerSize bare = 0
 initializerSize (given t) = size t
 
-declaratorSize : Declarator → ℕ
+unfoldable pub declaratorSize : Declarator → ℕ
 declaratorSize d = initializerSize (d .initializer)
 
 -- the nodes and declarators of a statement
-weight : Statement → ℕ
+unfoldable pub weight : Statement → ℕ
 weight (declaration kind ds) = total declaratorSize ds + length ds
 weight (expression t) = size t
 weight other = 0
 
 -- what a search leaves of a tree and of declarators weighs no more, and each fold takes one declarator
-record Shrunk (nodes declarators : ℕ) (w : FromDeclarators) : Type 0 where
-  lighter : size (w .result .target) + total declaratorSize (w .result .left) + length (w .result .left) ≤ nodes + declarators
-  fewer : length (w .result .left) + length (w .trace) ≡ declarators
+pub record Shrunk (nodes declarators : ℕ) (w : FromDeclarators) : Type 0 where
+  pub lighter : size (w .result .target) + total declaratorSize (w .result .left) + length (w .result .left) ≤ nodes + declarators
+  pub fewer : length (w .result .left) + length (w .trace) ≡ declarators
 
 module _ (ctx : Context) (before : List Statement) (kind : DeclarationKind) where
   after-answer : (d : Declarator) (initializer : Tree) (earlier : List Declarator) (target : Tree) (a : Answer Tree) (onward : Tree → FromDeclarators)
@@ -92,7 +92,7 @@ module _ (ctx : Context) (before : List Statement) (kind : DeclarationKind) wher
       (looked-shrunk _ _ (looksInExpression ctx (d .name) t target) _
       (after-answer d t earlier target (substituteInExpression ctx (d .name) t target) onward e (sized ctx (d .name) t target) h))
 
-  from-declarators : (literalOnly : Bool) (ds : List Declarator) (target : Tree)
+  pub from-declarators : (literalOnly : Bool) (ds : List Declarator) (target : Tree)
       → Shrunk (size target + total declaratorSize ds) (length ds) (substituteFromDeclarators ctx before kind literalOnly ds target)
   unfolding substituteFromDeclarators
   from-declarators literalOnly [] target = unfold pure total in (record { lighter = omega arith; fewer = omega arith })
@@ -149,17 +149,17 @@ module _ (ctx : Context) (before : List Statement) (kind : DeclarationKind) wher
       (record { lighter = omega (arith, s .lighter); fewer = omega (arith, s .fewer) })
 
 -- the weight and the declarators of statements that are kept
-keptWeight : Kept → ℕ
+unfoldable pub keptWeight : Kept → ℕ
 keptWeight k = weight (k .statement)
 
-keptDeclarators : Kept → ℕ
+unfoldable pub keptDeclarators : Kept → ℕ
 keptDeclarators k = length (declaratorsIn (k .statement))
 
 -- what a search leaves of a tree and of statements
-record Left (weights declarators statements : ℕ) (w : FromStatements) : Type 0 where
-  lighter : size (w .result .target) + total keptWeight (w .result .left) ≤ weights
-  fewer : total keptDeclarators (w .result .left) + length (w .trace) ≡ declarators
-  shorter : length (w .result .left) ≤ statements
+pub record Left (weights declarators statements : ℕ) (w : FromStatements) : Type 0 where
+  pub lighter : size (w .result .target) + total keptWeight (w .result .left) ≤ weights
+  pub fewer : total keptDeclarators (w .result .left) + length (w .trace) ≡ declarators
+  pub shorter : length (w .result .left) ≤ statements
 
 module _ (ctx : Context) where
   stays : (ks : List Kept) (target : Tree) → Left (size target + total keptWeight ks) (total keptDeclarators ks) (length ks) (ended target ks)
@@ -230,7 +230,7 @@ module _ (ctx : Context) where
   from-statements [] target = stays [] target
   from-statements (k ∷ earlier) target = from-statement k (k .statement) earlier target _ refl (λ t. from-statements earlier t)
 
-  in-statement : (ks : List Kept) (target : Tree)
+  pub in-statement : (ks : List Kept) (target : Tree)
       → Left (size target + total keptWeight ks) (total keptDeclarators ks) (length ks) (substituteInStatement ctx ks target)
   unfolding substituteInStatement
   in-statement ks target = or-stays (isUnsearched ctx) ks target _ (from-statements ks target)

@@ -2,11 +2,11 @@
 use Prim.Native.Nat.{_+_}
 use mathlib.Core.Bool.{Bool, true, false, cond, _||_}
 use mathlib.Core.Path.{_≡_, refl, sym, ap, _∙_}
-use Rattle.substitute.specs.declared.expression.Answer.{Answer}
-use Rattle.substitute.specs.declared.expression.Answer.the-variants.{Replaced, Stopped, Passed}
-use Rattle.substitute.specs.declared.expression.Walked.{Walked}
-use Rattle.substitute.specs.Answers.{isReplaced, Either}
-use Rattle.substitute.proofs.Planning.{clash}
+use Rattle.plans.specs.declared.walked.Answer.{Answer}
+use Rattle.plans.specs.declared.walked.Answer.the-variants.{Replaced, Stopped, Passed}
+use Rattle.plans.specs.declared.walked.Walked.{Walked}
+use Rattle.plans.specs.Answers.{isReplaced, Either}
+use Rattle.plans.proofs.Planning.{clash}
 
 replaced-is : (a : Answer) → isReplaced a ≡ true → a ≡ Replaced
 replaced-is Replaced e = refl

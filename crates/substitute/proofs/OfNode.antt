@@ -15,16 +15,16 @@ use Rattle.walk.specs.Shape.{shape as shapeOf, cleared}
 use Rattle.walk.specs.Effect.{hasEffect, mayHaveSideEffects, anyHasSideEffects}
 use Rattle.walk.specs.Looks.{ownLooks}
 use Rattle.walk.specs.Substitute.{Answer as RuleAnswer, replaced, stopped, passed, inOrder, mayPass, ofNode}
-use Rattle.substitute.specs.declared.shape.Shape.{Shape}
-use Rattle.substitute.specs.declared.sought.Sought.{Sought}
-use Rattle.substitute.specs.declared.expression.Answer.{Answer}
-use Rattle.substitute.specs.declared.expression.Answer.the-variants.{Replaced, Stopped, Passed}
-use Rattle.substitute.specs.declared.expression.Walked.{Walked}
-use Rattle.substitute.specs.Shapes.{shaped}
-use Rattle.substitute.specs.Answers.{isPassed, byPassing}
-use Rattle.substitute.specs.Described.{Describes}
-use Rattle.substitute.specs.Passing.{stopsIn, MayPass}
-use Rattle.substitute.specs.Search.{Found, Did, passes, stops, replaces, placed, alone}
+use Rattle.plans.specs.declared.shape.Shape.{Shape}
+use Rattle.plans.specs.declared.sought.Sought.{Sought}
+use Rattle.plans.specs.declared.walked.Answer.{Answer}
+use Rattle.plans.specs.declared.walked.Answer.the-variants.{Replaced, Stopped, Passed}
+use Rattle.plans.specs.declared.walked.Walked.{Walked}
+use Rattle.plans.specs.Shapes.{shaped}
+use Rattle.plans.specs.Answers.{isPassed, byPassing}
+use Rattle.plans.specs.Described.{Describes}
+use Rattle.plans.specs.Passing.{stopsIn, MayPass}
+use Rattle.plans.specs.Search.{Found, Did, passes, stops, replaces, placed, alone}
 use Rattle.substitute.specs.OfNode.{OfNode}
 use Rattle.substitute.proofs.Row.{wrong, wrong-off}
 

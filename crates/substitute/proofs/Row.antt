@@ -17,20 +17,20 @@ use Rattle.walk.specs.Context.{Context}
 use Rattle.walk.specs.Effect.{mayHaveSideEffects, anyHasSideEffects}
 use Rattle.walk.specs.Substitute.{Answer as RuleAnswer, replaced, stopped, passed, Plan as RulePlan, all, first as firstAlone, nothing, test, branches, next, inOrder, inBranches, byPlan, substituteInExpression, substituteInChildren}
 use Rattle.walk.specs.Looks.{entersFirst, goesOn, isReplaced as isPlaced, isPassed as isOpen, looksInExpression, looksInChildren}
-use Rattle.substitute.specs.declared.plan.Plan.{Plan}
-use Rattle.substitute.specs.declared.plan.Plan.the-variants.{All, First, Nothing, Test, Branches}
-use Rattle.substitute.specs.declared.sought.Sought.{Sought}
-use Rattle.substitute.specs.declared.expression.Answer.{Answer}
-use Rattle.substitute.specs.declared.expression.Answer.the-variants.{Replaced, Stopped, Passed}
-use Rattle.substitute.specs.declared.expression.Walked.{Walked}
-use Rattle.substitute.specs.Shapes.{planned}
-use Rattle.substitute.specs.Plans.{isNothing, isBranches}
-use Rattle.substitute.specs.Answers.{isPassed, isReplaced, Either}
-use Rattle.substitute.specs.Described.{Describes}
-use Rattle.substitute.specs.Search.{bareNames, allBareNames, Found, Did, passes, stops, replaces, placed, alone, Searches, SearchesRow}
-use Rattle.substitute.specs.Begins.{Behind}
-use Rattle.substitute.proofs.Planning.{clash}
-use Rattle.substitute.proofs.Behind.{all-bare, behind-first, found-behind}
+use Rattle.plans.specs.declared.plan.Plan.{Plan}
+use Rattle.plans.specs.declared.plan.Plan.the-variants.{All, First, Nothing, Test, Branches}
+use Rattle.plans.specs.declared.sought.Sought.{Sought}
+use Rattle.plans.specs.declared.walked.Answer.{Answer}
+use Rattle.plans.specs.declared.walked.Answer.the-variants.{Replaced, Stopped, Passed}
+use Rattle.plans.specs.declared.walked.Walked.{Walked}
+use Rattle.plans.specs.Shapes.{planned}
+use Rattle.plans.specs.Plans.{isNothing, isBranches}
+use Rattle.plans.specs.Answers.{isPassed, isReplaced, Either}
+use Rattle.plans.specs.Described.{Describes}
+use Rattle.plans.specs.Search.{bareNames, allBareNames, Found, Did, passes, stops, replaces, placed, alone, Searches, SearchesRow}
+use Rattle.plans.specs.Begins.{Behind}
+use Rattle.plans.proofs.Planning.{clash}
+use Rattle.plans.proofs.Behind.{all-bare, behind-first, found-behind}
 
 -- A plan that enters the first tree, by that tree's answer.
 module _ (t : Tree) (ts : Trees) (b : RuleAnswer Trees) where

@@ -21,22 +21,22 @@ use Rattle.walk.specs.Context.{Context}
 use Rattle.walk.specs.Shape.{is, Shape as RuleShape, steps, never, shape, cleared}
 use Rattle.walk.specs.Substitute.{Answer as RuleAnswer, replaced, stopped, passed, Plan as RulePlan, all, tag, next, at as atPosition, preserveIndirectAccess, asTag, inOrder, inBranches, byPlan, ofNode, isSpecificId, isMemberTag, keepsCallee, keepsIndirect, plan, planFor, mayPass, substituteInExpression, substituteInChildren}
 use Rattle.walk.specs.Looks.{ownLooks, entersFirst, goesOn, isPassed as isOpen, looksInExpression, looksInChildren}
-use Rattle.substitute.specs.declared.begin.Begun.{Begun}
-use Rattle.substitute.specs.declared.plan.Plan.{Plan}
-use Rattle.substitute.specs.declared.plan.Plan.the-variants.{All, First, Nothing, Test, Branches}
-use Rattle.substitute.specs.declared.sought.Sought.{Sought}
-use Rattle.substitute.specs.declared.expression.Answer.{Answer}
-use Rattle.substitute.specs.declared.expression.Answer.the-variants.{Replaced, Stopped, Passed}
-use Rattle.substitute.specs.declared.expression.Walked.{Walked}
-use Rattle.substitute.specs.Shapes.{shaped, planned}
-use Rattle.substitute.specs.Plans.{isNothing}
-use Rattle.substitute.specs.Answers.{isPassed, isReplaced}
-use Rattle.substitute.specs.Described.{Describes, Known}
-use Rattle.substitute.specs.Search.{bareNames, allBareNames, Searchable, SearchableRow, Found, Did, passes, stops, replaces, placed, alone, Searches, SearchesRow}
-use Rattle.substitute.specs.Begins.{Behind, Begins, BeginsAt}
+use Rattle.plans.specs.declared.begin.Begun.{Begun}
+use Rattle.plans.specs.declared.plan.Plan.{Plan}
+use Rattle.plans.specs.declared.plan.Plan.the-variants.{All, First, Nothing, Test, Branches}
+use Rattle.plans.specs.declared.sought.Sought.{Sought}
+use Rattle.plans.specs.declared.walked.Answer.{Answer}
+use Rattle.plans.specs.declared.walked.Answer.the-variants.{Replaced, Stopped, Passed}
+use Rattle.plans.specs.declared.walked.Walked.{Walked}
+use Rattle.plans.specs.Shapes.{shaped, planned}
+use Rattle.plans.specs.Plans.{isNothing}
+use Rattle.plans.specs.Answers.{isPassed, isReplaced}
+use Rattle.plans.specs.Described.{Describes, Known}
+use Rattle.plans.specs.Search.{bareNames, allBareNames, Searchable, SearchableRow, Found, Did, passes, stops, replaces, placed, alone, Searches, SearchesRow}
+use Rattle.plans.specs.Begins.{Behind, Begins, BeginsAt}
 use Rattle.substitute.specs.OfNode.{OfNode}
-use Rattle.substitute.proofs.Planning.{clash}
-use Rattle.substitute.proofs.Behind.{all-bare}
+use Rattle.plans.proofs.Planning.{clash}
+use Rattle.plans.proofs.Behind.{all-bare}
 use Rattle.substitute.proofs.Row.{wrong, wrong-off}
 use Rattle.substitute.proofs.Looking.{looks-most, all-looks-most}
 

@@ -1,11 +1,2 @@
--- What the code's shapes, plans and answers stand for, and what a search does.
-pub mod Shapes
-pub mod Described
-pub mod Plans
-pub mod Passing
-pub mod Child
-pub mod Target
-pub mod Answers
-pub mod Search
-pub mod Begins
+-- What the search of a node does, by what that of its children did.
 pub mod OfNode

@@ -10,13 +10,13 @@ use Rattle.walk.specs.Context.{Context}
 use Rattle.walk.specs.Shape.{shape as shapeOf}
 use Rattle.walk.specs.Looks.{ownLooks}
 use Rattle.walk.specs.Substitute.{Answer as RuleAnswer, mayPass, ofNode}
-use Rattle.substitute.specs.declared.shape.Shape.{Shape}
-use Rattle.substitute.specs.declared.sought.Sought.{Sought}
-use Rattle.substitute.specs.declared.expression.Walked.{Walked}
-use Rattle.substitute.specs.Shapes.{shaped}
-use Rattle.substitute.specs.Described.{Describes}
-use Rattle.substitute.specs.Passing.{stopsIn}
-use Rattle.substitute.specs.Search.{Did, alone}
+use Rattle.plans.specs.declared.shape.Shape.{Shape}
+use Rattle.plans.specs.declared.sought.Sought.{Sought}
+use Rattle.plans.specs.declared.walked.Walked.{Walked}
+use Rattle.plans.specs.Shapes.{shaped}
+use Rattle.plans.specs.Described.{Describes}
+use Rattle.plans.specs.Passing.{stopsIn}
+use Rattle.plans.specs.Search.{Did, alone}
 
 -- what the search did of the tree, from what it did of its children
 abbrev pub OfNode : Context → List ℕ → List ℕ → ℕ → NodeRecord → Shape → Bool → Sought → Walked → Walked → Type 0

@@ -9,70 +9,35 @@ ghost use Rattle.records.specs.File.{fileLength, read};
 ghost use Rattle.walk.specs.Context.{contextOf};
 ghost use Rattle.walk.specs.Looks.{ownLooks};
 ghost use Rattle.walk.specs.Shape.{cleared};
-ghost use Rattle.substitute.specs.Described.{Known};
-ghost use Rattle.substitute.specs.Answers.{isPassed, isReplaced, byPassing, Either};
-ghost use Rattle.substitute.specs.Search.{Searchable, SearchableRow, Searches, SearchesRow};
+ghost use Rattle.plans.specs.Described.{Known};
+ghost use Rattle.plans.specs.Answers.{byPassing, Either};
+ghost use Rattle.plans.specs.Search.{Searchable, SearchableRow, Searches, SearchesRow};
 ghost use Rattle.substitute.specs.OfNode.{OfNode};
-ghost use Rattle.substitute.specs.Begins.{Behind};
-ghost use Rattle.substitute.specs.Plans.{isNothing};
-ghost use Rattle.substitute.specs.declared.expression.Answer.the-variants.{Replaced, Stopped, Passed};
+ghost use Rattle.plans.specs.Begins.{Behind};
+ghost use Rattle.plans.specs.Plans.{isNothing};
+ghost use Rattle.plans.specs.declared.walked.Answer.the-variants.{Replaced, Stopped, Passed};
 ghost use Rattle.walk.specs.Substitute.{isSpecificId};
 ghost use lib.Dec.{eqb};
-use crate::begin::begin;
-use crate::pass::may_pass;
-use crate::plan::Plan;
-use crate::plan::is_branches;
-use crate::plan::is_nothing;
-use crate::plan::next_plan;
-use crate::shape::Shape;
-use crate::sought::Sought;
 use effects::has_effect;
 use effects::pass_row;
+use plans::begin::begin;
+use plans::pass::may_pass;
+use plans::plan::Plan;
+use plans::plan::is_branches;
+use plans::plan::is_nothing;
+use plans::plan::next_plan;
+use plans::shape::Shape;
+use plans::sought::Sought;
+use plans::walked::Answer;
+use plans::walked::Walked;
+use plans::walked::is_passed;
+use plans::walked::is_replaced;
 use records::layout::Header;
 use records::layout::NodeId;
 use records::layout::NodeRecord;
 use records::number::one;
-use records::number::size;
 use table::set_flags;
 use table::work_node;
-
-// Some(true), Some(false), None: replaced; not replaced, and the search ends; not replaced, and it goes on.
-pub enum Answer {
-    Replaced,
-    Stopped,
-    Passed,
-}
-
-// The answer, and where the trees end (unless replaced), whether they have an effect (where passed), where the name stands and
-// whether it is a tag that stays indirect (where replaced), and the looks.
-pub struct Walked {
-    pub answer: Answer,
-    pub next: NodeId,
-    pub effect: bool,
-    pub place: NodeId,
-    pub indirect: bool,
-    pub looks: usize,
-}
-
-pub fn is_passed(a: Answer) -> bool
-    ensures { λ r. ⌜ r ≡ isPassed a ⌝ }
-{
-    match a {
-        Answer::Replaced => false,
-        Answer::Stopped => false,
-        Answer::Passed => true,
-    }
-}
-
-pub fn is_replaced(a: Answer) -> bool
-    ensures { λ r. ⌜ r ≡ isReplaced a ⌝ }
-{
-    match a {
-        Answer::Replaced => true,
-        Answer::Stopped => false,
-        Answer::Passed => false,
-    }
-}
 
 // The looks at a node itself; a computed key `__proto__` is one, with no node.
 fn own_looks(n: NodeRecord) -> usize

@@ -4,6 +4,7 @@ use std::io::Write;
 
 use crate::answers::write_entry;
 use crate::fold::fold;
+use crate::generate::bytes::{changed_bytes, lengths};
 use crate::generate::case::Case;
 use crate::generate::damage::damaged_case;
 use crate::generate::exhaustive::{passed_files, small_files};
@@ -18,7 +19,7 @@ use crate::generate::shapes::shapes;
 /// The names of the families, with their numbers.
 pub const FAMILIES: &str = "random SEED FIRST COUNT SIZE | damaged SEED FIRST COUNT SIZE | \
                             small NODES | passed NODES | facts | rules | shapes | nests | \
-                            limits | refusals";
+                            limits | refusals | lengths | bytes";
 
 /// Writes the entries of a family to the output.
 pub fn batch(family: &str, numbers: &[u64], out: &mut dyn Write) -> Result<(), String> {
@@ -53,6 +54,8 @@ fn each_case(family: &str, numbers: &[u64], put: &mut dyn FnMut(Case)) -> Result
         ("shapes", []) => shapes().iter().for_each(|shape| put(shape.case())),
         ("limits", []) => limits().into_iter().for_each(put),
         ("refusals", []) => refusals().into_iter().for_each(put),
+        ("lengths", []) => lengths(put),
+        ("bytes", []) => changed_bytes(put),
         _ => return Err(format!("a family is one of {FAMILIES}")),
     }
     Ok(())

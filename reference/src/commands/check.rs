@@ -156,12 +156,14 @@ fn check_shapes() -> Result<String, String> {
 fn check_answers(directory: &Path) -> Result<String, String> {
     let mut said = Vec::new();
     for list in lists() {
-        let (name, expected) = (list.path, list.cases.len());
-        let kept = read(&directory.join(list.path))?;
-        demand(kept == entries(&list.cases), || format!("{name} isn't the list made anew"))?;
-        let count = replay(&kept)?;
-        demand(count == expected, || format!("{name}: {count} entries, not {expected}"))?;
-        said.push(format!("{name}: {count} entries, {} bytes", kept.len()));
+        let (bytes, expected) = (entries(&list.cases), list.cases.len());
+        let count = replay(&bytes)?;
+        for path in list.paths {
+            let kept = read(&directory.join(path))?;
+            demand(kept == bytes, || format!("{path} isn't the list made anew"))?;
+            demand(count == expected, || format!("{path}: {count} entries, not {expected}"))?;
+            said.push(format!("{path}: {count} entries, {} bytes", kept.len()));
+        }
     }
     Ok(format!("{}, made anew byte for byte", said.join("; ")))
 }
@@ -213,8 +215,8 @@ fn check_generated(report: &mut Report, amount: Amount) {
     println!("all: {}", all.line());
 }
 
-/// Mostly small trees, now and then a large one.
-fn size_of(case: u64) -> usize {
+/// Of random files: mostly small trees, now and then a large one.
+pub fn size_of(case: u64) -> usize {
     if case % 50 == 0 { 200 } else { 8 + usize::try_from(case % 3).expect("small") * 8 }
 }
 

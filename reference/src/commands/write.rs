@@ -21,8 +21,10 @@ pub fn write_all(directory: &Path) -> Result<(), String> {
     }
     for list in lists() {
         let bytes = entries(&list.cases);
-        println!("{}: {} answers, {} bytes", list.path, list.cases.len(), bytes.len());
-        put(&directory.join(list.path), &bytes)?;
+        for path in list.paths {
+            println!("{path}: {} answers, {} bytes", list.cases.len(), bytes.len());
+            put(&directory.join(path), &bytes)?;
+        }
     }
     Ok(())
 }

@@ -138,6 +138,7 @@ fn most_folds() -> Vec<Case> {
     vec![
         case(0, "255 folds within a declaration", &one_declaration(literals.clone())),
         case(0, "255 folds over statements", &in_statements(literals)),
+        case(0, "256 names folded into one statement", &every_name_folded()),
         case(0, "254 kept tags within a declaration", &one_declaration(tags.clone())).in_bulk(),
         case(0, "254 kept tags over statements", &in_statements(tags.clone())).in_bulk(),
         case(0, "254 kept tags, 3000 nodes", &filled_up(one_declaration(tags))),
@@ -146,6 +147,17 @@ fn most_folds() -> Vec<Case> {
         case(0, "many looks through a deep tree", &deep_looks()),
         case(0, "255 empty declarations", &empty_declarations()),
     ]
+}
+
+/// As many names as a file may have, each a declarator, all folded into one array.
+fn every_name_folded() -> RecordFile {
+    let names = DECLARED + 1;
+    let declarators = (0..names).map(|name| (name, Some(Tree::literal()))).collect();
+    let lines = [
+        Line::Declaration { kind: statement::CONST, declarators },
+        Line::Expression(Tree::new(kind::ARRAY, (0..names).map(Tree::name).collect())),
+    ];
+    file_of(vec![declared_name(1); usize::from(names)], &lines)
 }
 
 /// So many literals, all searched for in one array with these items.

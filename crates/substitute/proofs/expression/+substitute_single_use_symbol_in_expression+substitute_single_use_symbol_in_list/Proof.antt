@@ -6,7 +6,7 @@ use mathlib.Core.Path.{_≡_, refl, sym, ap, _∙_, subst}
 use lib.ListN.{length}
 use Rattle.records.specs.File.{read}
 use Rattle.walk.specs.Context.{contextOf}
-use Rattle.substitute.specs.declared.plan.Plan.the-variants.{All}
+use Rattle.plans.specs.declared.plan.Plan.the-variants.{All}
 use Rattle.substitute.proofs.Row.{row-none, row-nothing, row-replaced, row-both, row-either, row-stopped}
 use Rattle.substitute.proofs.Searching.{searchable-stands, searchable-room, row-stands, first-searchable, here-found, tag-here}
 use Rattle.substitute.proofs.Nodes.{both-behind, sum-fits, is-one-of, one-searched, node-searched, begun-row, others-searchable, row-looks-most, looks-in-room}
@@ -20,21 +20,21 @@ use Rattle.substitute.proofs.expression.substitute_single_use_symbol_in
 use Rattle.substitute.proofs.expression.substitute_single_use_symbol_in_list.Kinds as substitute-single-use-symbol-in-list-kinds
 use Rattle.substitute.proofs.expression.+substitute_single_use_symbol_in_expression+substitute_single_use_symbol_in_list.Lts-substitute_single_use_symbol_in_list as substitute-single-use-symbol-in-list-lts
 use Rattle.effects.proofs.pass_row.Reads as pass-row-reads
-use Rattle.substitute.proofs.begin.begin.Reads as begin-reads
+use Rattle.plans.proofs.begin.begin.Reads as begin-reads
 use Rattle.substitute.proofs.expression.behind.Reads as behind-reads
 use Rattle.substitute.proofs.expression.both.Reads as both-reads
 use Rattle.substitute.proofs.expression.either.Reads as either-reads
 use Rattle.substitute.proofs.expression.found.Reads as found-reads
 use Rattle.substitute.proofs.expression.is_one.Reads as is-one-reads
-use Rattle.substitute.proofs.expression.is_passed.Reads as is-passed-reads
-use Rattle.substitute.proofs.expression.is_replaced.Reads as is-replaced-reads
+use Rattle.plans.proofs.walked.is_passed.Reads as is-passed-reads
+use Rattle.plans.proofs.walked.is_replaced.Reads as is-replaced-reads
 use Rattle.substitute.proofs.expression.is_specific_id.Reads as is-specific-id-reads
 use Rattle.substitute.proofs.expression.of_node.Reads as of-node-reads
 use Rattle.substitute.proofs.expression.passed.Reads as passed-reads
 use Rattle.substitute.proofs.expression.stopped.Reads as stopped-reads
-use Rattle.substitute.proofs.plan.is_branches.Reads as is-branches-reads
-use Rattle.substitute.proofs.plan.is_nothing.Reads as is-nothing-reads
-use Rattle.substitute.proofs.plan.next_plan.Reads as next-plan-reads
+use Rattle.plans.proofs.plan.is_branches.Reads as is-branches-reads
+use Rattle.plans.proofs.plan.is_nothing.Reads as is-nothing-reads
+use Rattle.plans.proofs.plan.next_plan.Reads as next-plan-reads
 use Rattle.table.proofs.work_node.Reads as work-node-reads
 use Rattle.substitute.proofs.expression.+substitute_single_use_symbol_in_expression+substitute_single_use_symbol_in_list.{
   statement,

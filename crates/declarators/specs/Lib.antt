@@ -1,0 +1,3 @@
+-- What the search of declarators asks before it searches.
+pub mod Cases
+pub mod Ends

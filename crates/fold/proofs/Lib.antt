@@ -1,0 +1,2 @@
+-- Laws of the public call.
+pub mod Returning

@@ -1,0 +1,108 @@
+-- What the fold returns and writes, from what its parts did.
+use Prim.Native.Nat.{ℕ, _+_, _*_, _≤_, _<_}
+use native.Mathlib.Omega.{arith}
+use mathlib.Core.Bool.{true, false, cond}
+use mathlib.Core.List.{List, _++_}
+use mathlib.Core.Path.{_≡_, refl, sym, ap, _∙_, subst}
+use lib.ListN.{length, drop}
+use borrow.Author.Tests.{leb-true, ltb-false, ne-eqb}
+use Rattle.records.specs.Limits.{maxNodes, maxDeclarators, maxStatements}
+use Rattle.records.specs.Record.{headerOf}
+use Rattle.records.specs.File.{File, headerFor, fileLength, read, print}
+use Rattle.records.specs.Refusal.{refusal, roomWanted}
+use Rattle.records.specs.declared.layout.Header.{Header}
+use Rattle.statements.specs.Fold.{withStatements, foldedFile, foldFile, Returned, refused, accepted, foldBytes}
+use Rattle.roundtrip.proofs.Accepted.{Accepted as Passed, accepted as rows-passed, has-header, has-length}
+use Rattle.roundtrip.proofs.PrintedFile.{printed-length}
+use Rattle.acceptance.proofs.Limits.{Lower, limits-parts, limits-lower}
+use Rattle.acceptance.proofs.Acceptance.{lower, result-accepted}
+use Rattle.acceptance.proofs.Laws.{returned, length-most, result-is}
+use Rattle.result.specs.declared.header.Counts.{Counts}
+use Rattle.result.specs.Header.{Countable, resultHeader}
+use Rattle.result.specs.Result.{Hold, SameFacts, Stated, PutsResult}
+use Rattle.fold.specs.declared.Folded.{Folded}
+use Rattle.fold.specs.declared.Folded.the-variants.{Refused, Written}
+use Rattle.folding.specs.declared.in_order.Totals.{Totals}
+use Rattle.folding.specs.Folds.{FoldsFile}
+use Rattle.fold.specs.Answer.{Numbers, numbers, numbersOf, laidOver}
+
+-- A file that is refused.
+pub refused-numbers : (bytes : List ℕ) (room number : ℕ) → number ≡ refusal bytes room → (number ≡ 0 → ⊥) → numbers (Refused number) ≡ numbersOf (foldBytes bytes room)
+unfolding foldBytes refused
+refused-numbers bytes room number e n = rw (← e, ne-eqb number 0 n) refl
+
+pub refused-output : (bytes : List ℕ) (room number : ℕ) (output : List ℕ) → number ≡ refusal bytes room → (number ≡ 0 → ⊥) → output ≡ laidOver (foldBytes bytes room) output
+unfolding foldBytes refused
+refused-output bytes room number output e n = rw (← e, ne-eqb number 0 n) refl
+
+-- the counts of the tables
+abbrev pub countsOf : Totals → Counts
+countsOf t = record { nodes = t .used; declarators = t .many; statements = t .count }
+
+-- A file that is accepted.
+module _ (bytes : List ℕ) (room : ℕ) (e : refusal bytes room ≡ 0) where
+  rows : Passed bytes room
+  rows = rows-passed bytes room e
+
+  abbrev folded : File
+  folded = foldFile (read bytes) .file
+
+  pub long-header : 24 ≤ length bytes
+  long-header = has-header rows .0
+
+  pub long-file : (h : Header) → h ≡ headerOf bytes → length bytes ≡ fileLength h
+  long-file h q = has-length rows ∙ ap fileLength (sym q)
+
+  -- the counts of the result are within the limits
+  limits : (headerFor folded .nodes + 2 * headerFor folded .declarators ≤ 3000) × (headerFor folded .declarators ≤ 500) × (headerFor folded .statements ≤ 500)
+  limits =
+      let w = limits-parts (headerFor folded) (limits-lower (headerOf bytes) (headerFor folded) (lower bytes room rows) (rows .limits)) .0 in
+      (leb-true _ maxNodes (w .nodes), leb-true _ maxDeclarators (w .declarators), leb-true _ maxStatements (w .statements))
+
+  same-facts : SameFacts folded (read bytes)
+  unfolding foldFile foldedFile withStatements
+  same-facts = record { options = refl; currentScope = refl; thisScope = refl; names = refl; scopes = refl; frames = refl }
+
+  -- from the tables that hold the result's statements
+  module _ (nodes declarators statements : List ℕ) (t : Totals) (rest₁ rest₂ rest₃ : List ℕ) (w : FoldsFile bytes nodes declarators statements t rest₁ rest₂ rest₃) where
+    stated : Stated (folded .statements) nodes declarators statements (countsOf t) rest₁ rest₂ rest₃
+    stated = record { trees = w .trees; declared = w .declared; stated = w .stated; used = w .used; many = w .many; listed = w .count }
+
+    counted : (t .used + 2 * t .many ≤ 3000) × (t .many ≤ 500) × (t .count ≤ 500)
+    unfolding headerFor
+    counted = (omega (arith, limits .0, w .used, w .many), omega (arith, limits .1, w .many), omega (arith, limits .2, w .count))
+
+    pub countable : Countable (countsOf t)
+    countable = (omega (arith, counted .0), omega (arith, counted .1), omega (arith, counted .2))
+
+    pub held : 48000 ≤ length nodes → 2000 ≤ length declarators → 2000 ≤ length statements → Hold nodes declarators statements (countsOf t)
+    held a b c = (omega (arith, counted .0, a), omega (arith, counted .1, b), omega (arith, counted .2, c))
+
+    same-length : (h : Header) → h ≡ headerOf bytes → fileLength (resultHeader h (countsOf t)) ≡ length (print folded)
+    unfolding headerFor
+    same-length h q =
+        let l = lower bytes room rows in
+        let n = ap (λ (x : Header). x .names) q in
+        let s = ap (λ (x : Header). x .scopes) q in
+        let f = ap (λ (x : Header). x .frames) q in
+        omega (arith, printed-length folded, l .names, l .scopes, l .frames, n, s, f, w .used, w .many, w .count)
+
+    pub has-room : (h : Header) → h ≡ headerOf bytes → fileLength (resultHeader h (countsOf t)) ≤ room
+    unfolding roomWanted
+    has-room h q =
+        let x = length-most bytes room e in
+        let y = ap length (result-is bytes room e) in
+        let z = ltb-false room (roomWanted bytes) (rows .fits) in
+        omega (arith, same-length h q, x, y, z)
+
+    pub written-numbers : (output output′ : List ℕ) {r : ℕ} → PutsResult bytes nodes declarators statements (countsOf t) output output′ r → numbers (Written r (t .folds)) ≡ numbersOf (foldBytes bytes room)
+    unfolding accepted
+    written-numbers output output′ p =
+        let (x, y) = p folded rest₁ rest₂ rest₃ same-facts stated in
+        rw (returned bytes room e, x, w .folded) refl
+
+    pub written-output : (output : List ℕ) {output′ : List ℕ} {r : ℕ} → PutsResult bytes nodes declarators statements (countsOf t) output output′ r → output′ ≡ laidOver (foldBytes bytes room) output
+    unfolding accepted
+    written-output output p =
+        let (x, y) = p folded rest₁ rest₂ rest₃ same-facts stated in
+        rw (returned bytes room e) y

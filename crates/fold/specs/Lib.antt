@@ -1,0 +1,2 @@
+-- What the public call returns and writes.
+pub mod Answer

@@ -1,0 +1,73 @@
+// The fold of a record file: the public call.
+ghost use mathlib.Core.Path.{_≡_};
+ghost use Prim.Native.Nat.{_≤_};
+ghost use lib.ListN.{length};
+ghost use Rattle.records.specs.Refusal.{refusal as refusalOf};
+ghost use Rattle.statements.specs.Fold.{foldBytes};
+ghost use Rattle.fold.specs.Answer.{numbers, numbersOf, laidOver};
+use folding::in_order::fold_statements;
+use records::layout::header_of;
+use refusal::answer::number_of;
+use refusal::check::refusal;
+use result::header::Counts;
+use result::put_result;
+
+// Refused, with the number of document 01's table; or folded: the result's length, and the declarators folded.
+pub enum Folded {
+    Refused(u8),
+    Written(usize, usize),
+}
+
+// The fold over tables that are lent: nodes, 16 bytes each; declarators and statements, 4 bytes each; where the declarators'
+// trees begin.
+fn fold_over(
+    file: &[u8],
+    output: &mut [u8],
+    nodes: &mut [u8],
+    declarators: &mut [u8],
+    starts: &mut [usize],
+    statements: &mut [u8],
+) -> Folded
+    requires { ⌜ 48000 ≤ length (now nodes) ⌝ }
+    requires { ⌜ 2000 ≤ length (now declarators) ⌝ }
+    requires { ⌜ 500 ≤ length (now starts) ⌝ }
+    requires { ⌜ 2000 ≤ length (now statements) ⌝ }
+    ensures { λ r. ⌜ numbers r ≡ numbersOf (foldBytes (now (file .entry)) (length (now (output .entry)))) ⌝ }
+    ensures { λ _. ⌜ now (output .exit) ≡ laidOver (foldBytes (now (file .entry)) (length (now (output .entry)))) (now (output .entry)) ⌝ }
+{
+    let number = number_of(refusal(file, output.len()));
+    if number == 0 {
+        let h = header_of(file);
+        let t = fold_statements(file, h, nodes, declarators, starts, statements);
+        let counts = Counts {
+            nodes: t.used,
+            declarators: t.many,
+            statements: t.count,
+        };
+        let length = put_result(output, file, h, nodes, declarators, statements, counts);
+        return Folded::Written(length, t.folds);
+    }
+    Folded::Refused(number)
+}
+
+// Folds the record file `file` and lays the result down at the start of `output`; a refusal leaves `output` as it is, and so
+// it is with every byte past the result. What is returned and written is the definition `foldBytes`, of which demand 3 is
+// proved (`demand/proofs/Demand3.antt`): the run of the result is the run of the file.
+pub fn fold(file: &[u8], output: &mut [u8]) -> Folded
+    ensures { λ r. ⌜ numbers r ≡ numbersOf (foldBytes (now (file .entry)) (length (now (output .entry)))) ⌝ }
+    ensures { λ _. ⌜ now (output .exit) ≡ laidOver (foldBytes (now (file .entry)) (length (now (output .entry)))) (now (output .entry)) ⌝ }
+    ensures { λ _. ⌜ (refusalOf (now (file .entry)) (length (now (output .entry))) ≡ 0 → refusalOf (foldBytes (now (file .entry)) (length (now (output .entry))) .result) (length (now (output .entry))) ≡ 0) ⌝ }
+{
+    let mut nodes = [0u8; 48000];
+    let mut declarators = [0u8; 2000];
+    let mut starts = [0usize; 500];
+    let mut statements = [0u8; 2000];
+    fold_over(
+        file,
+        output,
+        &mut nodes,
+        &mut declarators,
+        &mut starts,
+        &mut statements,
+    )
+}

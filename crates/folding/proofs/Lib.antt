@@ -1,0 +1,12 @@
+-- Laws of the tables while the statements of a file are taken.
+pub mod Writes
+pub mod Pushes
+pub mod Loads
+pub mod Searches
+pub mod Definitions
+pub mod Taken
+pub mod Going
+pub mod Folding
+pub mod Result
+pub mod Beginning
+pub mod Sequence

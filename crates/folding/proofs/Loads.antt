@@ -1,0 +1,92 @@
+-- The next tree of the file, loaded behind what is kept. Assumes nothing.
+use mathlib.Core.Path.{_≡_, refl, sym, ap, subst, _∙_}
+use mathlib.Core.List.{List, [], _++_, append-assoc}
+use Prim.Native.Nat.{ℕ, _+_, _*_, _≤_}
+use native.Mathlib.Omega.{arith}
+use lib.ListN.{length, drop}
+use Rattle.records.specs.Tree.{Tree, Trees, more, size, sizes, preorder, preorders}
+use Rattle.records.specs.File.{bare, given, Declarator, nodesStart}
+use Rattle.records.specs.declared.layout.Header.{Header}
+use Rattle.records.specs.declared.layout.NodeRecord.{NodeRecord}
+use Rattle.records.specs.declared.layout.DeclaratorRecord.{DeclaratorRecord}
+use Rattle.records.proofs.Tests.{both}
+use Rattle.table.specs.Laid.{laid}
+use Rattle.plans.specs.Search.{bareNames, allBareNames}
+use Rattle.statements.specs.Statements.{Kept}
+use Rattle.search.specs.Kept.{laidInitializer, nodesOf, bareInitializer, laidDeclarators, nodesIn}
+use Rattle.search.specs.KeptStatements.{laidKept, nodesKept}
+use Rattle.search.proofs.KeptRows.{kept-split, kept-length}
+use Rattle.search.proofs.Going.{declarators-split, declarators-length}
+use Rattle.load.specs.Load.{FileTree}
+use Rattle.load.proofs.FileRow.{first, beyond}
+use Rattle.folding.specs.declared.progress.Progress.{Progress}
+use Rattle.folding.specs.State.{Holds, State}
+use Rattle.folding.specs.Next.{HasTree, treePast, Loaded}
+
+-- the bytes of what is kept, before others
+abbrev keptBytes : List Kept → List Declarator → List ℕ
+keptBytes ks ds = laidKept ks (laidDeclarators ds [])
+
+whole-split : (ks : List Kept) (ds : List Declarator) (x : List ℕ) → laidKept ks (laidDeclarators ds x) ≡ keptBytes ks ds ++ x
+whole-split ks ds x =
+    kept-split ks (laidDeclarators ds x)
+    ∙ ap (λ (l : List ℕ). laidKept ks [] ++ l) (declarators-split ds x)
+    ∙ sym (append-assoc (laidKept ks []) (laidDeclarators ds []) x)
+    ∙ ap (λ (l : List ℕ). l ++ x) (sym (kept-split ks (laidDeclarators ds [])))
+
+whole-length : (ks : List Kept) (ds : List Declarator) → length (keptBytes ks ds) ≡ 16 * (nodesKept ks + nodesIn ds)
+whole-length ks ds = omega (arith, kept-length ks (laidDeclarators ds []), declarators-length ds [])
+
+module _ {file : List ℕ} {h : Header} {nodes records starts statements : List ℕ} {low : ℕ} {p : Progress} {ks : List Kept} {ds : List Declarator} {t : Tree} {ts : Trees} {coming : List DeclaratorRecord} {left : ℕ} {rest : List ℕ} {before : List NodeRecord}
+    (s : State file h nodes records starts statements low p ks ds bare (more t ts) coming left rest before) where
+  -- the tree that is next
+  pub next-tree : FileTree file (nodesStart h) (p .node) t (h .nodes) before (preorders ts [])
+  next-tree = first (s .comes .trees)
+
+  pub has-tree : 48000 ≤ length nodes → HasTree file h nodes p
+  unfolding sizes
+  has-tree l = (t, h .nodes, before, preorders ts [], next-tree, omega (arith, s .room .weight))
+
+  module _ {nodes′ : List ℕ} {r : Progress} (l : Loaded file h nodes nodes′ p r) where
+    stood : nodes ≡ keptBytes ks ds ++ rest
+    unfolding laidInitializer
+    stood = s .holds .is ∙ whole-split ks ds rest
+
+    long : length (keptBytes ks ds) ≡ 16 * p .used
+    unfolding nodesOf
+    long = whole-length ks ds ∙ omega (arith, s .holds .starting, s .holds .ends)
+
+    pub progress-is : r ≡ treePast p (size t)
+    progress-is = l t (h .nodes) before (preorders ts []) next-tree (keptBytes ks ds) rest stood long .0
+
+    holds-tree : Holds nodes′ records starts statements low (treePast p (size t)) ks ds (given t) (drop (16 * size t) rest)
+    unfolding laidInitializer nodesOf bareInitializer allBareNames
+    holds-tree =
+        let o = s .holds in
+        let a = o .ends in
+        record {
+          is = l t (h .nodes) before (preorders ts []) next-tree (keptBytes ks ds) rest stood long .1 ∙ sym (whole-split ks ds (laid t (drop (16 * size t) rest)));
+          stated = o .stated;
+          declared = o .declared;
+          counted = o .counted;
+          starting = omega (arith, a, o .starting);
+          ends = refl;
+          kept = o .kept;
+          held = o .held;
+          names = o .names;
+          own-names = o .own-names;
+          tree-names = both (bareNames t) (allBareNames ts) (s .comes .names) .0;
+        }
+
+    -- it stands behind what is kept, and the others are still to come
+    pub loaded-state : State file h nodes′ records starts statements low r ks ds (given t) ts coming left (drop (16 * size t) rest) (before ++ preorder t [])
+    unfolding allBareNames sizes
+    loaded-state =
+        let c = s .comes in
+        let m = s .room in
+        subst (λ (q : Progress). State file h nodes′ records starts statements low q ks ds (given t) ts coming left (drop (16 * size t) rest) (before ++ preorder t [])) (sym progress-is)
+        (record {
+          holds = holds-tree;
+          comes = record { trees = beyond (c .trees); records = c .records; few = c .few; names = both (bareNames t) (allBareNames ts) (c .names) .1 };
+          room = record { weight = omega (arith, m .weight); declared = m .declared; stated = m .stated };
+        })

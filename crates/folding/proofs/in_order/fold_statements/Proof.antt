@@ -1,0 +1,114 @@
+-- `folding::in_order::fold_statements` meets its contract. Assumes nothing.
+use mathlib.Core.List.{List}
+use mathlib.Core.Path.{_≡_, refl, ap, _∙_}
+use Prim.Native.Nat.{ℕ, _+_, _-_, _*_}
+use native.Mathlib.Omega.{arith}
+use lib.ListN.{length, getD}
+use Rattle.records.specs.Bytes.{Bytes}
+use Rattle.records.specs.Record.{statementAt}
+use Rattle.folding.proofs.Sequence.{SomeOrdered, ordered-begins, ordered-inside, can-fold, ordered-on, ordered-ends}
+use Rattle.folding.proofs.in_order.fold_statements.Statement.{statement}
+use Rattle.folding.proofs.in_order.fold_statements.Tie as tie
+
+abbrev Inv-loop : tie.InvT-loop
+Inv-loop file h nodes₀ declarators₀ starts₀ statements₀ from count p₀ i₀ nodes declarators starts statements p i =
+    (length nodes ≡ length nodes₀) × (length declarators ≡ length declarators₀) × (length starts ≡ length starts₀) × (length statements ≡ length statements₀)
+    × Bytes declarators × Bytes statements × SomeOrdered file h nodes declarators starts statements p i count
+
+abbrev μ-loop : tie.MeasureT-loop
+μ-loop file h nodes₀ declarators₀ starts₀ statements₀ from count p₀ i₀ nodes declarators starts statements p i = count - i
+
+part-offsets-requires : tie.Need-part-offsets-requires Inv-loop μ-loop
+part-offsets-requires c κs = tt
+
+array-read-from : tie.Need-array-read-from Inv-loop μ-loop
+array-read-from c = omega arith
+
+size-requires : tie.Need-size-requires Inv-loop μ-loop
+size-requires c κs = tt
+
+loop-holds : tie.Need-loop-holds Inv-loop μ-loop
+loop-holds c = (
+  refl,
+  refl,
+  refl,
+  refl,
+  (λ i. omega (arith, (c .before .before .before .before .slice-known2) .given i)),
+  (λ i. omega (arith, (c .before .before .slice-known4) .given i)),
+  ordered-begins ((c .before .before .before .before .before .before .before) .args .file .now) ((c .before .before .before .before .before .before .before) .args .h) ((c .before .before .before .before .before .before .before) .args .nodes .now) ((c .before .before .before .before .before .before .before) .args .declarators .now) ((c .before .before .before .before .before .before .before) .args .starts .now) ((c .before .before .before .before .before .before .before) .args .statements .now) ((c .size) .result) ((c .before .before .before .before .before .before .before) .pre .1 .1 .0) ((c .before .before .before .before .before .before .before) .pre .0) ((c .size) .ensures .0),
+)
+
+mul-statement-at : tie.Need-mul-statement-at Inv-loop μ-loop
+mul-statement-at c = omega arith
+
+add-statement-at : tie.Need-add-statement-at Inv-loop μ-loop
+add-statement-at c =
+    let x = ordered-inside ((c .before .before .before .before .before .before .before .before .before) .args .file .now) ((c .before .before .before .before .before .before .before .before .before) .args .h) (omega arith) ((c .before .loop) .inv .6) in
+    omega (arith, x, ap (λ (l : List ℕ). getD l 5 0) ((c .before .before .before .part-offsets) .ensures))
+
+statement-at-requires : tie.Need-statement-at-requires Inv-loop μ-loop
+statement-at-requires c κs =
+    let x = ordered-inside ((c .before .before .before .before .before .before .before .before .before) .args .file .now) ((c .before .before .before .before .before .before .before .before .before) .args .h) (omega arith) ((c .before .loop) .inv .6) in
+    omega (arith, x, ap (λ (l : List ℕ). getD l 5 0) ((c .before .before .before .part-offsets) .ensures))
+
+fold-statement-requires : tie.Need-fold-statement-requires Inv-loop μ-loop
+fold-statement-requires c κs =
+    let x = can-fold ((c .before .before .before .before .before .before .before .before .before .before .before .before .before .before) .args .file .now) ((c .before .before .before .before .before .before .before .before .before .before .before .before .before .before) .args .h) (omega arith) ((c .before .before .before .before .statement-at) .result) ((c .before .before .before .before .statement-at) .ensures ∙ ap (λ (k : ℕ). statementAt ((c .before .before .before .before .before .before .before .before .before .before .before .before .before .before) .args .file .now) (k + 4 * (c .before .before .before .before .before .before .loop) .i)) (ap (λ (l : List ℕ). getD l 5 0) ((c .before .before .before .before .before .before .before .before .part-offsets) .ensures))) ((c .before .before .before .before .before .before .loop) .inv .6) in
+    ((c .before .before .before .before .before .before .before .before .before .before .before .before .before .before) .pre .0, ((c .before .before .before .before .before .before .before .before .before .before .before .before .before .before) .pre .1 .0, ((omega (arith, (c .before .before .before .before .before .before .before .before .before .before .before .before .before .before) .pre .1 .1 .1), omega (arith, (c .before .before .before .before .before .before .before .before .before .before .before .before .before .before) .pre .1 .1 .1), omega (arith, (c .before .before .before .before .before .before .before .before .before .before .before .before .before .before) .pre .1 .1 .1), omega (arith, (c .before .before .before .before .before .before .before .before .before .before .before .before .before .before) .pre .1 .1 .1)), x)))
+
+add-i : tie.Need-add-i Inv-loop μ-loop
+add-i c = omega arith
+
+loop-less : tie.Need-loop-less Inv-loop μ-loop
+loop-less c = omega arith
+
+loop-again : tie.Need-loop-again Inv-loop μ-loop
+loop-again c = (
+  omega arith,
+  omega arith,
+  omega arith,
+  omega arith,
+  (λ i. omega (arith, (c .before .before .before .before .slice-known6) .given i)),
+  (λ i. omega (arith, (c .slice-known8) .given i)),
+  ordered-on ((c .before .before .before .before .before .before .before .before .before .before .before .before .before .before .before .before .before .before .before .before .before .before .before) .args .file .now) ((c .before .before .before .before .before .before .before .before .before .before .before .before .before .before .before .before .before .before .before .before .before .before .before) .args .h) (omega arith) _ _ _ _ ((c .before .before .before .before .before .before .before .before .before .before .before .before .before .statement-at) .result) _ ((c .before .before .before .before .before .before .before .before .before .before .before .before .before .statement-at) .ensures ∙ ap (λ (k : ℕ). statementAt ((c .before .before .before .before .before .before .before .before .before .before .before .before .before .before .before .before .before .before .before .before .before .before .before) .args .file .now) (k + 4 * (c .before .before .before .before .before .before .before .before .before .before .before .before .before .before .before .loop) .i)) (ap (λ (l : List ℕ). getD l 5 0) ((c .before .before .before .before .before .before .before .before .before .before .before .before .before .before .before .before .before .part-offsets) .ensures))) ((c .before .before .before .before .before .before .before .before .fold-statement) .ensures) ((c .before .before .before .before .before .before .before .before .before .before .before .before .before .before .before .loop) .inv .6),
+)
+
+same-length : tie.Need-same-length Inv-loop μ-loop
+same-length c = omega arith
+
+same-length-2 : tie.Need-same-length-2 Inv-loop μ-loop
+same-length-2 c = omega arith
+
+same-length-3 : tie.Need-same-length-3 Inv-loop μ-loop
+same-length-3 c = omega arith
+
+same-length-4 : tie.Need-same-length-4 Inv-loop μ-loop
+same-length-4 c = omega arith
+
+returns : tie.Need-returns Inv-loop μ-loop
+returns c =
+    let v = (c .before .loop) .inv in
+    ordered-ends ((c .before .before .before .before .before .before .before .before .before) .args .file .now) ((c .before .before .before .before .before .before .before .before .before) .args .h) (omega arith) (omega (arith, (c .before .before .before .before .before .before .before .before .before) .pre .1 .1 .1), omega (arith, (c .before .before .before .before .before .before .before .before .before) .pre .1 .1 .1), omega (arith, (c .before .before .before .before .before .before .before .before .before) .pre .1 .1 .1), omega (arith, (c .before .before .before .before .before .before .before .before .before) .pre .1 .1 .1)) (v .4) (v .5) (v .6)
+
+pub fold-statements-spec : {M : Type 1} → statement M
+fold-statements-spec =
+    tie.close
+    (tie.spec
+    Inv-loop
+    μ-loop
+    part-offsets-requires
+    array-read-from
+    size-requires
+    loop-holds
+    mul-statement-at
+    add-statement-at
+    statement-at-requires
+    fold-statement-requires
+    add-i
+    loop-less
+    loop-again
+    same-length
+    same-length-2
+    same-length-3
+    same-length-4
+    returns)

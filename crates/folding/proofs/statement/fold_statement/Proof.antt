@@ -1,0 +1,74 @@
+-- `folding::statement::fold_statement` meets its contract. Assumes nothing.
+use Rattle.records.specs.File.{read}
+use Rattle.walk.specs.Context.{contextOf}
+use Rattle.folding.proofs.Folding.{other-folds, fold-kind}
+use borrow.Author.Needs.{needs}
+use Rattle.folding.proofs.statement.fold_statement.Statement.{statement}
+use Rattle.folding.proofs.statement.fold_statement.Tie as tie
+
+fold-expression-requires : tie.Need-fold-expression-requires
+fold-expression-requires c κs = ((c .before .before .before .before .before .before .before .before .before .before .before) .pre .0, ((c .before .before .before .before .before .before .before .before .before .before .before) .pre .1 .0, ((c .before .before .before .before .before .before .before .before .before .before .before) .pre .1 .1 .0, ((c .before .before .before .before .before .before .before .before .before .before .before) .pre .1 .1 .1, (c .before .before .before .before .if1) .taken))))
+
+same-length : tie.Need-same-length
+same-length c = search needs
+
+same-length-2 : tie.Need-same-length-2
+same-length-2 c = search needs
+
+same-length-3 : tie.Need-same-length-3
+same-length-3 c = search needs
+
+same-length-4 : tie.Need-same-length-4
+same-length-4 c = search needs
+
+returns : tie.Need-returns
+returns c = search needs
+
+push-statement-requires : tie.Need-push-statement-requires
+push-statement-requires c κs = search needs
+
+same-length-5 : tie.Need-same-length-5
+same-length-5 c = search needs
+
+returns-2 : tie.Need-returns-2
+returns-2 c = other-folds (contextOf (read ((c .before .before .before .before .before .before .before .before .before .before .before .before .before) .args .file .now))) ((c .before .before .before .before .before .before .before .before .before .before .before .before .before) .args .file .now) ((c .before .before .before .before .before .before .before .before .before .before .before .before .before) .args .h) ((c .before .before .before .before .before .before .before .before .before .before .before .before .before) .args .nodes .now) ((c .before .before .before .before .before .before .before .before .before .before .before .before .before) .args .declarators .now) ((c .before .before .before .before .before .before .before .before .before .before .before .before .before) .args .starts .now) ((c .before .before .before .before .before .before .before .before .before .before .before .before .before) .args .statements .now) ((c .before .before .before .before .before .before .before .before .before .before .before .before .before) .args .s) ((c .before .before .before .before .before .before .before .before .before .before .before .before .before) .args .p) _ _ ((c .before .before .before .before .if2) .taken) ((c .before .before .push-statement) .ensures .1) ((c .before .before .push-statement) .ensures .0)
+
+fold-declaration-requires : tie.Need-fold-declaration-requires
+fold-declaration-requires c κs =
+    let x = fold-kind ((c .before .before .before .before .before .before .before .before .before .before .before .before .before) .args .file .now) ((c .before .before .before .before .before .before .before .before .before .before .before .before .before) .args .h) ((c .before .before .before .before .before .before .before .before .before .before .before .before .before) .args .nodes .now) ((c .before .before .before .before .before .before .before .before .before .before .before .before .before) .args .declarators .now) ((c .before .before .before .before .before .before .before .before .before .before .before .before .before) .args .starts .now) ((c .before .before .before .before .before .before .before .before .before .before .before .before .before) .args .statements .now) ((c .before .before .before .before .before .before .before .before .before .before .before .before .before) .args .s) ((c .before .before .before .before .before .before .before .before .before .before .before .before .before) .args .p) ((c .before .before .before .before .before .before .before .before .before .before .before .before .before) .pre .1 .1 .1) ((c .before .before .before .before .before .before .if1) .left) ((c .before .before .before .before .if2) .left) in
+    ((c .before .before .before .before .before .before .before .before .before .before .before .before .before) .pre .0, ((c .before .before .before .before .before .before .before .before .before .before .before .before .before) .pre .1 .0, ((c .before .before .before .before .before .before .before .before .before .before .before .before .before) .pre .1 .1 .0, ((c .before .before .before .before .before .before .before .before .before .before .before .before .before) .pre .1 .1 .1, x))))
+
+same-length-6 : tie.Need-same-length-6
+same-length-6 c = search needs
+
+same-length-7 : tie.Need-same-length-7
+same-length-7 c = search needs
+
+same-length-8 : tie.Need-same-length-8
+same-length-8 c = search needs
+
+same-length-9 : tie.Need-same-length-9
+same-length-9 c = search needs
+
+returns-3 : tie.Need-returns-3
+returns-3 c = search needs
+
+pub fold-statement-spec : {M : Type 1} → statement M
+fold-statement-spec =
+    tie.close
+    (tie.spec
+    fold-expression-requires
+    same-length
+    same-length-2
+    same-length-3
+    same-length-4
+    returns
+    push-statement-requires
+    same-length-5
+    returns-2
+    fold-declaration-requires
+    same-length-6
+    same-length-7
+    same-length-8
+    same-length-9
+    returns-3)

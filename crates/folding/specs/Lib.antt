@@ -1,0 +1,6 @@
+-- The fold of a file's statements over lent tables.
+pub mod Pushed
+pub mod State
+pub mod Next
+pub mod Declarators
+pub mod Folds

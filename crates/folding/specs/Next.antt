@@ -1,0 +1,53 @@
+-- The next tree of a file, loaded and searched from the statements that are kept.
+use Prim.Native.Nat.{ℕ, _+_, _*_}
+use mathlib.Core.List.{List, [], _++_}
+use mathlib.Core.Path.{_≡_}
+use lib.ListN.{length, drop}
+use Rattle.records.specs.Tree.{Tree, Trees, more, size}
+use Rattle.records.specs.File.{bare, given, nodesStart}
+use Rattle.records.specs.declared.layout.Header.{Header}
+use Rattle.records.specs.declared.layout.NodeRecord.{NodeRecord}
+use Rattle.records.specs.declared.layout.DeclaratorRecord.{DeclaratorRecord}
+use Rattle.table.specs.Laid.{laid}
+use Rattle.walk.specs.Context.{Context}
+use Rattle.statements.specs.Statements.{Kept, substituteInStatement}
+use Rattle.load.specs.Load.{FileTree, HasRoom}
+use Rattle.folding.specs.declared.progress.Progress.{Progress}
+use Rattle.folding.specs.State.{State}
+
+-- a tree is the next, and there is room for it
+abbrev pub HasTree : List ℕ → Header → List ℕ → Progress → Type 0
+HasTree file h nodes p = HasRoom file (nodesStart h) (p .node) nodes (p .used)
+
+-- a tree of so many nodes is loaded
+abbrev pub treePast : Progress → ℕ → Progress
+treePast p many = record {
+  start = p .used;
+  used = p .used + many;
+  many = p .many;
+  count = p .count;
+  folds = p .folds;
+  node = p .node + many;
+  declarator = p .declarator;
+}
+
+abbrev pub Loaded : List ℕ → Header → List ℕ → List ℕ → Progress → Progress → Type 0
+Loaded file h nodes nodes′ p r =
+    (t : Tree) (total : ℕ) (before behind : List NodeRecord) → FileTree file (nodesStart h) (p .node) t total before behind
+    → (pre rest : List ℕ) → nodes ≡ pre ++ rest → length pre ≡ 16 * p .used
+    → (r ≡ treePast p (size t)) × (nodes′ ≡ pre ++ laid t (drop (16 * size t) rest))
+
+-- statements are kept, and a tree is the next
+abbrev pub CanTakeNext : List ℕ → Header → List ℕ → List ℕ → List ℕ → List ℕ → Progress → Type 0
+CanTakeNext file h nodes records starts statements p =
+    (ks : List Kept) × (t : Tree) × (ts : Trees) × (coming : List DeclaratorRecord) × (left : ℕ) × (rest : List ℕ) × (before : List NodeRecord)
+    × State file h nodes records starts statements (p .many) p ks [] bare (more t ts) coming left rest before
+
+-- it stands behind the statements that its search has left
+abbrev pub SearchedFromStatements : Context → List ℕ → Header → List ℕ → List ℕ → List ℕ → List ℕ → List ℕ → List ℕ → Progress → Progress → Type 0
+SearchedFromStatements ctx file h nodes nodes′ records starts statements statements′ p r =
+    (ks : List Kept) (t : Tree) (ts : Trees) (coming : List DeclaratorRecord) (left : ℕ) (rest : List ℕ) (before : List NodeRecord)
+    → State file h nodes records starts statements (p .many) p ks [] bare (more t ts) coming left rest before
+    → (rest′ : List ℕ) × (before′ : List NodeRecord)
+    × State file h nodes′ records starts statements′ (r .many) r (substituteInStatement ctx ks t .result .left) [] (given (substituteInStatement ctx ks t .result .target)) ts coming left rest′ before′
+    × (r .folds ≡ p .folds + length (substituteInStatement ctx ks t .trace))

@@ -1,0 +1,62 @@
+-- What the tables hold while the statements of a file are taken, and what is still to come.
+use Prim.Native.Nat.{ℕ, _+_, _*_, _≤_}
+use mathlib.Core.Bool.{true}
+use mathlib.Core.List.{List, []}
+use mathlib.Core.Path.{_≡_}
+use lib.ListN.{length}
+use Rattle.records.specs.Record.{declaratorAt}
+use Rattle.records.specs.Records.{recordsFrom}
+use Rattle.records.specs.Tree.{Trees, sizes}
+use Rattle.records.specs.File.{Initializer, Declarator, nodesStart, declaratorsStart}
+use Rattle.records.specs.declared.layout.Header.{Header}
+use Rattle.records.specs.declared.layout.NodeRecord.{NodeRecord}
+use Rattle.records.specs.declared.layout.DeclaratorRecord.{DeclaratorRecord}
+use Rattle.plans.specs.Search.{allBareNames}
+use Rattle.statements.specs.Statements.{Kept}
+use Rattle.search.specs.Kept.{laidInitializer, nodesOf, bareInitializer, laidDeclarators, nodesIn, bareDeclarators, Held}
+use Rattle.search.specs.KeptStatements.{laidKept, nodesKept, declaratorsKept, bareKept, HeldKept}
+use Rattle.load.specs.Load.{FileRow}
+use Rattle.folding.specs.declared.progress.Progress.{Progress}
+
+-- room for the limits of document 01: 3000 nodes, 500 declarators, 500 statements
+abbrev pub Long : List ℕ → List ℕ → List ℕ → List ℕ → Type 0
+Long nodes records starts statements =
+    (48000 ≤ length nodes) × (2000 ≤ length records) × (500 ≤ length starts) × (2000 ≤ length statements)
+
+-- The tables hold statements that are kept, the last first; behind them the declarators of the declaration under way, the
+-- last first, the first of which has number `low`; and the tree of one more, if it has one.
+pub record Holds (nodes records starts statements : List ℕ) (low : ℕ) (p : Progress) (ks : List Kept) (ds : List Declarator) (i : Initializer) (rest : List ℕ) : Type 0 where
+  pub is : nodes ≡ laidKept ks (laidDeclarators ds (laidInitializer i rest))
+  pub stated : p .count ≡ length ks
+  pub declared : low ≡ declaratorsKept ks
+  pub counted : p .many ≡ low + length ds
+  pub starting : p .start ≡ nodesKept ks + nodesIn ds
+  pub ends : p .used ≡ p .start + nodesOf i
+  pub kept : HeldKept records starts statements ks
+  pub held : Held records starts low (nodesKept ks) ds
+  pub names : bareKept ks ≡ true
+  pub own-names : bareDeclarators ds ≡ true
+  pub tree-names : bareInitializer i ≡ true
+
+-- Records of four bytes that stand in a file, from number `number` on, where the first of all begins at byte `from`.
+pub record RecordRow {A : Type 0} (readAt : List ℕ → ℕ → A) (file : List ℕ) (from number : ℕ) (xs : List A) : Type 0 where
+  pub is : recordsFrom (readAt file) 4 (length xs) (from + 4 * number) ≡ xs
+  pub inside : from + 4 * number + 4 * length xs ≤ length file
+
+-- the trees and the declarators of the file that are still to come
+pub record Coming (file : List ℕ) (h : Header) (p : Progress) (ts : Trees) (ds : List DeclaratorRecord) (before : List NodeRecord) : Type 0 where
+  pub trees : FileRow file (nodesStart h) (p .node) ts (h .nodes) before []
+  pub records : RecordRow declaratorAt file (declaratorsStart h) (p .declarator) ds
+  pub few : p .declarator + length ds ≤ 65535
+  pub names : allBareNames ts ≡ true
+
+-- they and what is kept are within the limits: a fold takes a declarator and adds at most one node
+pub record Room (p : Progress) (nodes declarators statements : ℕ) : Type 0 where
+  pub weight : p .used + p .many + nodes + declarators ≤ 3000
+  pub declared : p .folds + p .many + declarators ≤ 500
+  pub stated : p .count + statements ≤ 500
+
+pub record State (file : List ℕ) (h : Header) (nodes records starts statements : List ℕ) (low : ℕ) (p : Progress) (ks : List Kept) (ds : List Declarator) (i : Initializer) (ts : Trees) (coming : List DeclaratorRecord) (left : ℕ) (rest : List ℕ) (before : List NodeRecord) : Type 0 where
+  pub holds : Holds nodes records starts statements low p ks ds i rest
+  pub comes : Coming file h p ts coming before
+  pub room : Room p (sizes ts) (length coming) left

@@ -1,0 +1,83 @@
+// The next declarator of the file; its next tree, behind the nodes that are in use, searched from the statements that are kept.
+ghost use mathlib.Core.Path.{_≡_};
+ghost use Prim.Native.Nat.{_+_, _*_, _≤_};
+ghost use lib.ListN.{length};
+ghost use Rattle.records.specs.Record.{headerOf, declaratorAt};
+ghost use Rattle.records.specs.File.{fileLength, read, declaratorsStart};
+ghost use Rattle.walk.specs.Context.{contextOf};
+ghost use Rattle.folding.specs.State.{Long};
+ghost use Rattle.folding.specs.Next.{CanTakeNext, Loaded, SearchedFromStatements, HasTree};
+use crate::progress::Progress;
+use load::load_tree;
+use records::header::part_offsets;
+use records::layout::DeclaratorRecord;
+use records::layout::Header;
+use records::layout::declarator_at;
+use search::in_statement::substitute_single_use_symbol_in_statement;
+
+// The next declarator of the file.
+pub(crate) fn next_declarator(file: &[u8], h: Header, p: Progress) -> DeclaratorRecord
+    requires { ⌜ declaratorsStart h + 4 * p .declarator + 4 ≤ length (now file) ⌝ }
+    ensures { λ r. ⌜ r ≡ declaratorAt (now (file .entry)) (declaratorsStart h + 4 * p .declarator) ⌝ }
+{
+    let parts = part_offsets(h);
+    declarator_at(file, parts[4] + 4 * p.declarator)
+}
+
+// Loads it.
+pub(crate) fn load_next(file: &[u8], h: Header, nodes: &mut [u8], p: Progress) -> Progress
+    requires { ⌜ HasTree (now file) h (now nodes) p ⌝ }
+    ensures { λ r. ⌜ Loaded (now (file .entry)) h (now (nodes .entry)) (now (nodes .exit)) p r ⌝ }
+{
+    let parts = part_offsets(h);
+    let size = load_tree(file, parts[3], p.node, nodes, p.used);
+    Progress {
+        start: p.used,
+        used: p.used + size,
+        many: p.many,
+        count: p.count,
+        folds: p.folds,
+        node: p.node + size,
+        declarator: p.declarator,
+    }
+}
+
+// Loads it, and searches it.
+pub(crate) fn substitute_in_next_tree(
+    file: &[u8],
+    h: Header,
+    nodes: &mut [u8],
+    declarators: &[u8],
+    starts: &[usize],
+    statements: &mut [u8],
+    p: Progress,
+) -> Progress
+    requires { ⌜ h ≡ headerOf (now file) ⌝ }
+    requires { ⌜ length (now file) ≡ fileLength h ⌝ }
+    requires { ⌜ Long (now nodes) (now declarators) (now starts) (now statements) ⌝ }
+    requires { ⌜ CanTakeNext (now file) h (now nodes) (now declarators) (now starts) (now statements) p ⌝ }
+    ensures { λ r. ⌜ SearchedFromStatements (contextOf (read (now (file .entry)))) (now (file .entry)) h (now (nodes .entry)) (now (nodes .exit)) (now (declarators .entry)) (now (starts .entry)) (now (statements .entry)) (now (statements .exit)) p r ⌝ }
+{
+    let l = load_next(file, h, nodes, p);
+    let r = substitute_single_use_symbol_in_statement(
+        file,
+        h,
+        nodes,
+        declarators,
+        starts,
+        statements,
+        l.count,
+        l.many,
+        l.start,
+        l.used,
+    );
+    Progress {
+        start: r.start,
+        used: r.used,
+        many: r.many,
+        count: r.count,
+        folds: l.folds + r.folds,
+        node: l.node,
+        declarator: l.declarator,
+    }
+}

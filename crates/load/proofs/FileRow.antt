@@ -1,0 +1,101 @@
+-- The laws of trees among the node records of a file: their nodes, the trees one after the other. Assumes nothing.
+use mathlib.Core.Path.{_≡_, refl, sym, ap, _∙_}
+use mathlib.Core.List.{List, [], _∷_, _++_, append-assoc}
+use Prim.Native.Nat.{ℕ, _+_, _*_, _≤_}
+use native.Mathlib.Omega.{arith}
+use lib.ListN.{length, take, drop, length-append}
+use lib.Seq.{take-at, drop-at, getD-at}
+use Rattle.records.specs.Limits.{nodeLength}
+use Rattle.records.specs.Record.{nodeAt}
+use Rattle.records.specs.Records.{recordsFrom}
+use Rattle.records.specs.Tree.{Node, Tree, Trees, node, none, more, count, size, sizes, joined, recordOf, preorder, preorders}
+use Rattle.records.specs.declared.layout.NodeRecord.{NodeRecord}
+use Rattle.records.proofs.Series.{record-at, records-length}
+use Rattle.roundtrip.proofs.Preorder.{preorders-joined, preorder-length, preorders-length, preorder-append}
+use Rattle.roundtrip.proofs.Series.{recordsFrom-add}
+use Rattle.load.specs.Load.{FileRow, FileTree}
+
+-- Every record stands before the row, in it or behind it.
+pub parts : {file : List ℕ} {from at total : ℕ} {ts : Trees} {before behind : List NodeRecord} → FileRow file from at ts total before behind
+    → at + sizes ts + length behind ≡ total
+parts {file} {from} {total = total} {ts} {before} {behind} h =
+    omega (
+      arith,
+      ap length (h .is),
+      records-length (nodeAt file) nodeLength total from,
+      length-append before (preorders ts behind),
+      preorders-length ts behind,
+      h .starts,
+    )
+
+-- so the row is inside the file
+pub room : {file : List ℕ} {from at total : ℕ} {ts : Trees} {before behind : List NodeRecord} → FileRow file from at ts total before behind
+    → from + nodeLength * at + nodeLength * sizes ts ≤ length file
+room h = omega (arith, parts h, h .inside)
+
+module _ {file : List ℕ} {from at total : ℕ} {n : Node} {kids ts : Trees} {before behind : List NodeRecord} where
+  -- what is read at the first node of a row
+  pub node-at : FileRow file from at (more (node n kids) ts) total before behind → nodeAt file (from + nodeLength * at) ≡ recordOf n (count kids)
+  unfolding preorder preorders size sizes
+  node-at h =
+      let r = recordOf n (count kids) in
+      sym (record-at (nodeAt file) nodeLength total at from r (omega (arith, parts h)))
+      ∙ rw (h .is) (getD-at before r (preorders kids (preorders ts behind)) r at (h .starts))
+
+  -- its children and the trees behind it are a row
+  pub down : FileRow file from at (more (node n kids) ts) total before behind
+      → FileRow file from (at + 1) (joined kids ts) total (before ++ (recordOf n (count kids) ∷ [])) behind
+  unfolding preorder preorders
+  down h = record {
+    is = h .is ∙ rw (append-assoc, preorders-joined);
+    starts = omega (arith, length-append before (recordOf n (count kids) ∷ []), h .starts);
+    inside = h .inside;
+  }
+
+module _ {file : List ℕ} {from at total : ℕ} {t : Tree} {ts : Trees} {before behind : List NodeRecord} where
+  -- the first tree of a row
+  pub first : FileRow file from at (more t ts) total before behind → FileTree file from at t total before (preorders ts behind)
+  unfolding preorders
+  first h = record { is = h .is; starts = h .starts; inside = h .inside }
+
+  -- the others, behind the first
+  pub beyond : FileRow file from at (more t ts) total before behind → FileRow file from (at + size t) ts total (before ++ preorder t []) behind
+  unfolding preorders
+  beyond h = record {
+    is = h .is ∙ ap (λ (rs : List NodeRecord). before ++ rs) (preorder-append t [] (preorders ts behind)) ∙ sym (append-assoc before (preorder t []) (preorders ts behind));
+    starts = omega (arith, length-append before (preorder t []), preorder-length t [], h .starts);
+    inside = h .inside;
+  }
+
+  -- So the trees of a file can be loaded one after the other.
+  pub is-next : FileRow file from at (more t ts) total before behind
+      → FileTree file from at t total before (preorders ts behind) × FileRow file from (at + size t) ts total (before ++ preorder t []) behind
+  is-next h = (first h, beyond h)
+
+-- the row of all trees of a file
+pub all-trees : {file : List ℕ} {from total : ℕ} (ts : Trees) → recordsFrom (nodeAt file) nodeLength total from ≡ preorders ts []
+    → from + nodeLength * total ≤ length file → FileRow file from 0 ts total [] []
+all-trees ts is inside = record { is = is; starts = refl; inside = inside }
+
+-- A tree is inside the file.
+pub tree-room : {file : List ℕ} {from at total : ℕ} {t : Tree} {before behind : List NodeRecord} → FileTree file from at t total before behind
+    → from + nodeLength * at + nodeLength * size t ≤ length file
+unfolding sizes
+tree-room h = omega (arith, room h)
+
+-- The records of a tree are those that are read from its place on.
+pub tree-records : {file : List ℕ} {from at total : ℕ} {t : Tree} {before behind : List NodeRecord} → FileTree file from at t total before behind
+    → recordsFrom (nodeAt file) nodeLength (size t) (from + nodeLength * at) ≡ preorder t []
+unfolding preorders sizes
+tree-records {file} {from} {at} {total} {t} {before} {behind} h =
+    let m = length behind in
+    let all : ℕ → ℕ → List NodeRecord = λ many place. recordsFrom (nodeAt file) nodeLength many place in
+    let here = from + nodeLength * at in
+    let cut : total ≡ at + (size t + m) = omega (arith, parts h) in
+    let tail : all (size t + m) here ≡ preorder t behind
+    = sym (drop-at (all at from) (all (size t + m) here) at (records-length (nodeAt file) nodeLength at from))
+    ∙ ap (drop at) (sym (recordsFrom-add (nodeAt file) nodeLength at (size t + m) from) ∙ ap (λ (k : ℕ). all k from) (sym cut) ∙ h .is)
+    ∙ drop-at before (preorder t behind) at (h .starts) in
+    sym (take-at (all (size t) here) (all m (here + nodeLength * size t)) (size t) (records-length (nodeAt file) nodeLength (size t) here))
+    ∙ ap (take (size t)) (sym (recordsFrom-add (nodeAt file) nodeLength (size t) m here) ∙ tail ∙ preorder-append t [] behind)
+    ∙ take-at (preorder t []) behind (size t) (omega (arith, preorder-length t []))

@@ -1,0 +1,4 @@
+-- Laws of the trees in a file, and of a tree that is copied.
+pub mod FileRow
+pub mod Counting
+pub mod Loading

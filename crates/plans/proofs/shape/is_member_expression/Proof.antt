@@ -1,0 +1,13 @@
+-- `plans::shape::is_member_expression` meets its contract. Assumes nothing.
+use mathlib.Core.Bool.{Bool, true, false, cond, _&&_, _||_, not}
+use mathlib.Core.Path.{_≡_, refl, sym, ap, _∙_}
+use Rattle.records.specs.Tree.{nodeOf}
+use Rattle.plans.proofs.shape.is_member_expression.Statement.{statement}
+use Rattle.plans.proofs.shape.is_member_expression.Tie as tie
+
+returns : tie.Need-returns
+unfolding nodeOf
+returns c = refl
+
+pub is-member-expression-spec : {M : Type 1} → statement M
+is-member-expression-spec = tie.close (tie.spec returns)

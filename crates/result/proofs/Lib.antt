@@ -1,0 +1,3 @@
+-- What the proofs of the result rest on.
+pub mod Parts
+pub mod Printed

@@ -1,0 +1,156 @@
+-- Statements that are kept: their bytes, and the row of declarators of the last. Assumes nothing.
+use mathlib.Core.Bool.{false}
+use mathlib.Core.Path.{_≡_, refl, sym, ap, ap₂, subst, _∙_}
+use mathlib.Core.List.{List, [], _∷_, _++_, reverse, append-assoc}
+use Prim.Native.Nat.{ℕ, _+_, _*_, _-_, _≤_, _<_}
+use native.Mathlib.Omega.{arith}
+use lib.ListN.{length, getD, take, drop, length-reverse, length-take, length-drop, take-append-drop, List·getD-append}
+use Rattle.records.specs.Bytes.{u16At}
+use Rattle.records.specs.Record.{statementAt, statementBytes}
+use Rattle.records.specs.Tree.{Tree}
+use Rattle.records.specs.File.{DeclarationKind, Var, Let, Const, Using, AwaitUsing, kindNumber, Declarator, Statement, declaration, expression, other, declaratorsIn, statementNumber, statementRecord}
+use Rattle.records.specs.declared.layout.StatementRecord.{StatementRecord}
+use Rattle.records.proofs.Tests.{both}
+use Rattle.roundtrip.proofs.Formats.{statement-reads}
+use Rattle.roundtrip.proofs.Series.{read-one-in}
+use Rattle.table.specs.Laid.{laid}
+use Rattle.table.proofs.Laid.{laid-length, laid-split}
+use Rattle.splice.specs.Blocks.{Overwrites}
+use Rattle.statements.specs.Declarators.{isUsing}
+use Rattle.statements.specs.Statements.{Kept}
+use Rattle.search.specs.Kept.{laidDeclarators, bareDeclarators, Held}
+use Rattle.search.specs.KeptStatements.{laidStatement, nodesOfStatement, bareStatement, laidKept, nodesKept, declaratorsKept, bareKept, HeldKept, KeepsBefore}
+use Rattle.search.specs.FromDeclarators.{StandingRow}
+use Rattle.search.proofs.Going.{declarators-split, declarators-length}
+
+-- the trees of statements, and the bytes behind them
+statement-split : (s : Statement) (x : List ℕ) → laidStatement s x ≡ laidStatement s [] ++ x
+unfolding laidStatement
+statement-split (declaration kind ds) x = declarators-split (reverse ds) x
+statement-split (expression t) x = laid-split t x
+statement-split other x = refl
+
+pub kept-split : (ks : List Kept) (x : List ℕ) → laidKept ks x ≡ laidKept ks [] ++ x
+unfolding laidKept
+kept-split [] x = refl
+kept-split (k ∷ ks) x =
+    kept-split ks (laidStatement (k .statement) x)
+    ∙ ap (λ l. laidKept ks [] ++ l) (statement-split (k .statement) x)
+    ∙ sym (append-assoc (laidKept ks []) (laidStatement (k .statement) []) x)
+    ∙ ap (λ l. l ++ x) (sym (kept-split ks (laidStatement (k .statement) [])))
+
+statement-length : (s : Statement) (x : List ℕ) → length (laidStatement s x) ≡ 16 * nodesOfStatement s + length x
+unfolding laidStatement nodesOfStatement
+statement-length (declaration kind ds) x = declarators-length (reverse ds) x
+statement-length (expression t) x = laid-length t x
+statement-length other x = omega arith
+
+pub kept-length : (ks : List Kept) (x : List ℕ) → length (laidKept ks x) ≡ 16 * nodesKept ks + length x
+unfolding laidKept nodesKept
+kept-length [] x = omega arith
+kept-length (k ∷ ks) x = omega (arith, kept-length ks (laidStatement (k .statement) x), statement-length (k .statement) x)
+
+-- a declaration with its number in the file
+abbrev pub keptDeclaration : ℕ → DeclarationKind → List Declarator → Kept
+keptDeclaration number kind ds = record { number = number; statement = declaration kind ds }
+
+-- The last statement, where its record is that of a declaration that is no using.
+pub data Last (s : StatementRecord) : List Kept → Type 0 where
+  searched : (number : ℕ) (kind : DeclarationKind) (ds : List Declarator) (ks : List Kept) → isUsing kind ≡ false
+      → s ≡ statementRecord (declaration kind ds) → Last s (keptDeclaration number kind ds ∷ ks)
+
+no-using : (kind : DeclarationKind) → kindNumber kind ≤ 2 → isUsing kind ≡ false
+unfolding kindNumber isUsing
+no-using Var h = refl
+no-using Let h = refl
+no-using Const h = refl
+no-using Using h = absurd (omega arith)
+no-using AwaitUsing h = absurd (omega arith)
+
+last-of : (s : StatementRecord) (number : ℕ) (x : Statement) (ks : List Kept) → s ≡ statementRecord x → s .kind ≤ 2
+    → Last s (record { number = number; statement = x } ∷ ks)
+unfolding statementRecord statementNumber
+last-of s number (declaration kind ds) ks e h =
+    let k : s .kind ≡ kindNumber kind = ap (λ (r : StatementRecord). r .kind) e in
+    searched number kind ds ks (no-using kind (omega (arith, h, k))) e
+last-of s number (expression t) ks e h =
+    let k : s .kind ≡ 5 = ap (λ (r : StatementRecord). r .kind) e in
+    absurd (omega (arith, h, k))
+last-of s number other ks e h =
+    let k : s .kind ≡ 6 = ap (λ (r : StatementRecord). r .kind) e in
+    absurd (omega (arith, h, k))
+
+module _ {table records starts statements : List ℕ} {count many start used : ℕ} {target : Tree} {rest : List ℕ} where
+  -- the record of the last statement
+  pub last-record : (k : Kept) (ks : List Kept) → KeepsBefore table records starts statements count many start used (k ∷ ks) target rest
+      → statementAt statements (4 * (count - 1)) ≡ statementRecord (k .statement)
+  unfolding HeldKept
+  last-record k ks h =
+      let c = h .kept .counted .statements in
+      ap (statementAt statements) (omega (arith, c)) ∙ h .kept .held .0
+
+  pub last : (ks : List Kept) → KeepsBefore table records starts statements count many start used ks target rest
+      → (s : StatementRecord) → s ≡ statementAt statements (4 * (count - 1)) → 0 < count → s .kind ≤ 2 → Last s ks
+  last [] h s e p t = let c = h .kept .counted .statements in absurd (omega arith)
+  last (k ∷ ks) h s e p t = last-of s (k .number) (k .statement) ks (e ∙ last-record k ks h) t
+
+  -- the row of its declarators
+  pub row : (number : ℕ) (kind : DeclarationKind) (ds : List Declarator) (ks : List Kept) (low : ℕ)
+      → KeepsBefore table records starts statements count many start used (keptDeclaration number kind ds ∷ ks) target rest
+      → low ≡ many - length ds
+      → (low ≡ declaratorsKept ks) × StandingRow table records starts low many (nodesKept ks) start used (reverse ds) target (laidKept ks []) rest
+  unfolding laidKept laidStatement declaratorsKept declaratorsIn nodesKept nodesOfStatement bareKept bareStatement HeldKept
+  row number kind ds ks low h e =
+      let m = h .kept .counted .declarators in
+      let n = h .kept .counted .nodes in
+      let b = both (bareDeclarators (reverse ds)) (bareKept ks) (h .kept .names) in
+      let l : low ≡ declaratorsKept ks = omega (arith, m, e) in (
+        l,
+        record {
+          is = h .kept .is ∙ kept-split ks (laidDeclarators (reverse ds) (laid target rest));
+          begins = omega (arith, kept-length ks []);
+          counted = omega (arith, m, e, length-reverse ds);
+          held = subst (λ (x : ℕ). Held records starts x (nodesKept ks) (reverse ds)) (sym l) (h .kept .held .1);
+          starting = n;
+          ends = h .ends;
+          names = rw (b .0, h .target-names);
+        },
+      )
+
+-- the records of the statements before a place stay as they are, whatever is written from there on
+byte-before : (p x y : List ℕ) (i : ℕ) → i < length p → getD (p ++ x) i 0 ≡ getD (p ++ y) i 0
+byte-before p x y i h = List·getD-append p x 0 i h ∙ sym (List·getD-append p y 0 i h)
+
+record-before : (p x y : List ℕ) (at : ℕ) → at + 4 ≤ length p → statementAt (p ++ x) at ≡ statementAt (p ++ y) at
+unfolding statementAt u16At
+record-before p x y at h =
+    rw (
+      byte-before p x y at (omega arith),
+      byte-before p x y (at + 1) (omega arith),
+      byte-before p x y (at + 2) (omega arith),
+      byte-before p x y (at + 2 + 1) (omega arith),
+    )
+
+module _ (records starts : List ℕ) where
+  held-before : (p x y : List ℕ) (ks : List Kept) → 4 * length ks ≤ length p
+      → HeldKept records starts (p ++ x) ks → HeldKept records starts (p ++ y) ks
+  unfolding HeldKept
+  held-before p x y [] l h = tt
+  held-before p x y (k ∷ ks) l h =
+      (record-before p y x (4 * length ks) (omega arith) ∙ h .0, h .1, held-before p x y ks (omega arith) (h .2))
+
+  -- a record written behind them is read there
+  pub held-written : {statements statements′ : List ℕ} (ks : List Kept) (at : ℕ) (s : StatementRecord)
+      → at ≡ 4 * length ks → at + 4 ≤ length statements → Overwrites statements statements′ at (statementBytes s) → HeldKept records starts statements ks
+      → (statementAt statements′ (4 * length ks) ≡ s) × HeldKept records starts statements′ ks
+  held-written {statements} ks at s e l o h =
+      let p = take at statements in
+      let x = take 4 (drop at statements) in
+      let y = drop 4 (drop at statements) in
+      let is : statements ≡ p ++ (x ++ y) =
+      sym (take-append-drop at statements) ∙ ap (λ (t : List ℕ). p ++ t) (sym (take-append-drop 4 (drop at statements))) in
+      let lp : length p ≡ at = length-take at statements ∙ omega arith in
+      let w = o p x y is lp (length-take 4 (drop at statements) ∙ omega (arith, length-drop at statements, statement-reads .measured s)) in (
+        ap₂ statementAt w (sym e ∙ sym lp) ∙ read-one-in statement-reads p s y,
+        subst (λ (t : List ℕ). HeldKept records starts t ks) (sym w) (held-before p (x ++ y) (statementBytes s ++ y) ks (omega arith) (subst (λ (t : List ℕ). HeldKept records starts t ks) is h)),
+      )

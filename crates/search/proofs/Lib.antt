@@ -1,0 +1,6 @@
+-- Laws of the search from declarators and from statements.
+pub mod Steps
+pub mod Going
+pub mod Trying
+pub mod KeptRows
+pub mod InStatements

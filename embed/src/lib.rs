@@ -1,0 +1,58 @@
+//! Folds names that are used once in a record file. The work is done by `libwsf.a`, whose code is
+//! proved; `docs/EMBEDDING.md` has what a loader's author needs to know.
+//!
+//! No allocation, no global state: any number of threads may fold at the same time.
+
+#![no_std]
+
+pub mod raw;
+mod refusal;
+
+pub use refusal::Refusal;
+
+/// Room that is enough for every file: no accepted file wants more.
+pub const MOST_ROOM: usize = 42_248;
+
+/// What a declarator can add to a file's length.
+const ROOM_PER_DECLARATOR: usize = 8;
+
+/// Where the header's count of declarators stands, and how long a header is.
+const DECLARATORS_AT: usize = 14;
+const HEADER_BYTES: usize = 24;
+
+/// A file was folded.
+#[derive(Clone, Copy, PartialEq, Eq, Debug)]
+pub struct Folded {
+    /// The result is so many bytes at the start of the output.
+    pub length: usize,
+    /// So many declarators are gone.
+    pub folds: usize,
+}
+
+/// Folds the file and writes the result to the start of the output. What stands behind the result
+/// stays as it was; so does the whole output if the file is refused.
+pub fn fold(file: &[u8], output: &mut [u8]) -> Result<Folded, Refusal> {
+    // SAFETY: both are slices, so each pointer is good for its length, and the borrows keep them
+    // apart. `wsf_fold` asks no more.
+    let answer =
+        unsafe { raw::wsf_fold(file.as_ptr(), file.len(), output.as_mut_ptr(), output.len()) };
+    match answer.number {
+        0 => Ok(Folded { length: size(answer.length), folds: size(answer.folds) }),
+        number => Err(Refusal::of_number(number).expect("the library returns 0 to 11")),
+    }
+}
+
+/// The room that the fold of this file wants: its length and 8 bytes a declarator. Never more than
+/// `MOST_ROOM`, which is more than any accepted file wants.
+pub fn room_for(file: &[u8]) -> usize {
+    let declarators = match file.get(DECLARATORS_AT..DECLARATORS_AT + 2) {
+        Some(count) if file.len() >= HEADER_BYTES => u16::from_le_bytes([count[0], count[1]]),
+        _ => 0,
+    };
+    file.len().saturating_add(ROOM_PER_DECLARATOR * usize::from(declarators)).min(MOST_ROOM)
+}
+
+/// A length or a count of a result; it is at most `MOST_ROOM`.
+fn size(number: u64) -> usize {
+    usize::try_from(number).expect("it is small")
+}

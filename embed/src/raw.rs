@@ -1,0 +1,28 @@
+//! The function of the library as it stands: what `include/wsf.h` declares.
+
+/// What `wsf_fold` returns.
+#[repr(C)]
+#[derive(Clone, Copy, PartialEq, Eq, Debug)]
+pub struct WsfAnswer {
+    /// 0 if the file was folded, else the number of the row that refuses it, 1 to 11.
+    pub number: u64,
+    /// How many bytes of the output are the result; 0 for a refusal.
+    pub length: u64,
+    /// How many declarators were folded; 0 for a refusal.
+    pub folds: u64,
+}
+
+unsafe extern "C" {
+    /// Folds a file.
+    ///
+    /// # Safety
+    ///
+    /// `file` can be read for `file_length` bytes and `output` be read and written for
+    /// `output_length`; they don't overlap, and neither is null, not even with a length of 0.
+    pub fn wsf_fold(
+        file: *const u8,
+        file_length: usize,
+        output: *mut u8,
+        output_length: usize,
+    ) -> WsfAnswer;
+}

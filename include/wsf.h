@@ -1,0 +1,78 @@
+/*
+ * Folds names that are used once in a record file: `const n = 4096; load(n * 8)` becomes
+ * `load(4096 * 8)`. The library is target/staticlib/libwsf.a, which `rt staticlib wsf` writes.
+ * docs/EMBEDDING.md has the file's layout and says what is proved.
+ *
+ *     uint8_t output[WSF_MOST_ROOM];
+ *     WsfAnswer answer = wsf_fold(file, file_length, output, sizeof output);
+ *     if (answer.number == WSF_FOLDED)
+ *         use(output, answer.length);
+ *     else
+ *         use(file, file_length);     (refused: the output is as it was)
+ */
+#ifndef WSF_H
+#define WSF_H
+
+#include <stddef.h>
+#include <stdint.h>
+
+#ifdef __cplusplus
+extern "C" {
+#endif
+
+/*
+ * Room. The output has to have the file's length and 8 bytes for each of its declarators (their
+ * count is the u16, little-endian, at offset 14), or the file is refused with WSF_ROOM. No accepted
+ * file wants more than WSF_MOST_ROOM. The result may well be longer than the file, never longer
+ * than that room.
+ */
+#define WSF_MOST_ROOM 42248
+
+/* The returned number: the first row that applies, in this order. */
+enum {
+    WSF_FOLDED = 0,         /* the file is accepted, and folded where it can be */
+    WSF_NO_RECORD_FILE = 1, /* under 24 bytes, or doesn't begin with WSF */
+    WSF_VERSION = 2,        /* the version isn't 1 */
+    WSF_HEADER = 3,         /* a count outside its limits, an unknown option, a bad scope, last u16 not 0 */
+    WSF_LENGTH = 4,         /* the length isn't what the counts say */
+    WSF_FACTS = 5,          /* a bad name fact, scope or frame */
+    WSF_STATEMENTS = 6,     /* a bad declarator or statement, an unresolved declared name, a bad sum */
+    WSF_NODE = 7,           /* a node that is bad by itself */
+    WSF_TREES = 8,          /* trees that don't close, or a child where its kind can't stand */
+    WSF_DECLARED_TWICE = 9, /* a name declared twice */
+    WSF_USES = 10,          /* more reads or targets of a name than its facts say */
+    WSF_ROOM = 11           /* the output is too short; the file itself is good */
+};
+
+typedef struct {
+    uint64_t number; /* WSF_FOLDED, or the row that refuses the file */
+    uint64_t length; /* bytes of the result at the start of the output; 0 if refused */
+    uint64_t folds;  /* declarators that are gone; 0 if refused. A result may differ from its file
+                        with 0 folds: a shorthand may be written out, an empty declaration go */
+} WsfAnswer;
+
+/*
+ * Folds the file and writes the result to the start of the output.
+ *
+ * The output is as it was past the result; all of it, if the file is refused. The file is only read.
+ *
+ * Any bytes may be given as a file; none makes the call fail in another way than by its number. The
+ * caller sees to it that both pointers are good for their lengths and not null (not even with a
+ * length of 0), and that the two don't overlap.
+ *
+ * Threads: no global or static state, no allocation, no system call; any number of threads may fold
+ * at the same time. Of the C library it asks for memcpy and memset.
+ *
+ * Stack: 64 KB for a refused file and 73 KB for a script of a few hundred nodes. The search recurses
+ * once for each level of a tree: the deepest trees that a file can hold (3,000 nodes) take 1.82 MB,
+ * the most measured over every kind that nests. 2 MB below the call are enough. The size is measured,
+ * not proved; the compiled code was seen to touch each page of a frame in turn, so that a stack which is
+ * too small ends in the guard page.
+ */
+WsfAnswer wsf_fold(const uint8_t *file, size_t file_length, uint8_t *output, size_t output_length);
+
+#ifdef __cplusplus
+}
+#endif
+
+#endif

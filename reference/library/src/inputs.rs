@@ -1,0 +1,90 @@
+//! Files to time and to measure, by class.
+
+use reference::build::{Line, Tree, declared_name, file_of};
+use reference::fold::fold;
+use reference::generate::case::Case;
+use reference::generate::limits::limits;
+use reference::generate::nests::nests;
+use reference::generate::random_file::random_file;
+use reference::generate::refusals::refusals;
+use reference::record::{NODE_BYTES, kind, read_header, statement};
+use reference::scripts::scripts;
+
+pub struct Class {
+    pub what: String,
+    pub cases: Vec<Case>,
+}
+
+fn class(what: impl Into<String>, cases: Vec<Case>) -> Class {
+    Class { what: what.into(), cases }
+}
+
+/// Scripts as a bench has them.
+pub fn typical() -> Vec<Class> {
+    let of_scripts = scripts().iter().map(|it| Case::of_records(it.text, &it.file)).collect();
+    vec![
+        class("the twelve scripts", of_scripts),
+        class("random, 10 to 99 nodes", random_of(24, 10..100, 300)),
+        class("random, 100 to 499 nodes", random_of(200, 100..500, 100)),
+    ]
+}
+
+/// Accepted random files with so many nodes.
+fn random_of(size: usize, nodes: std::ops::Range<u16>, count: usize) -> Vec<Case> {
+    (0..)
+        .map(|number| Case::of_records("random", &random_file(11, number, size)))
+        .filter(|case| nodes.contains(&read_header(&case.file).nodes))
+        .filter(|case| fold(&case.file, case.room).number == 0)
+        .take(count)
+        .collect()
+}
+
+/// The largest files that are accepted.
+pub fn largest() -> Vec<Class> {
+    let accepted = limits().into_iter().filter(|case| case.expected == Some(0));
+    let large = accepted.filter(|case| case.file.len() > 2000 * NODE_BYTES);
+    let mut classes: Vec<Class> = large.map(|case| class(case.what.clone(), vec![case])).collect();
+    classes.push(class("random, 1500 to 2999 nodes", random_of(2500, 1500..3000, 20)));
+    classes
+}
+
+/// As many folds as there can be, all into one statement.
+pub fn most_folds() -> Vec<Class> {
+    const NAMES: u16 = 256;
+    let declare = |name: u16| Line::declare(statement::LET, name, Tree::literal());
+    let read = |tree: &dyn Fn(u16) -> Tree| {
+        let items = (0..NAMES).map(tree).collect();
+        Line::Expression(Tree::new(kind::ARRAY, items))
+    };
+    let file = |last: Line| {
+        let lines: Vec<Line> = (0..NAMES).map(declare).chain([last]).collect();
+        Case::of_records("", &file_of(vec![declared_name(1); NAMES.into()], &lines))
+    };
+    let bare = file(read(&Tree::name));
+    let below = file(read(&|name| Tree::new(kind::UNARY, vec![Tree::name(name)])));
+    vec![
+        class("256 folds into one statement", vec![bare]),
+        class("256 folds, each below an operator", vec![below]),
+    ]
+}
+
+/// Each nest, as deep as can be.
+pub fn deepest() -> Vec<Class> {
+    let of = |(what, file): &(_, _)| class(what, vec![Case::of_records(what, file)]);
+    nests().iter().map(of).collect()
+}
+
+/// Files that each row refuses.
+pub fn refused() -> Vec<Class> {
+    let row = |number: u32| {
+        let cases = refusals().into_iter().filter(|case| case.expected == Some(number));
+        class(format!("refused with {number}"), cases.collect())
+    };
+    let longest = limits().into_iter().find(|case| case.what == "the longest file");
+    let longest = longest.expect("it is among the limits");
+    let room = longest.room - 1;
+    let mut classes: Vec<Class> = (1..=11).map(row).collect();
+    classes.retain(|class| !class.cases.is_empty());
+    classes.push(class("refused with 11, the longest file", vec![longest.in_room(room)]));
+    classes
+}

@@ -1,0 +1,61 @@
+//! How much stack a call of the library takes: the stack below the caller is painted, and after the
+//! call the lowest byte that has changed is looked for.
+
+use crate::call::{MOST_ROOM, call, on_stack};
+use crate::inputs::{Class, deepest, largest, most_folds, refused, typical};
+
+/// The thread's stack; of it so much is painted below the caller.
+const STACK_BYTES: usize = 32 << 20;
+const PAINTED: usize = 24 << 20;
+/// Left to the functions that paint and look.
+const NEAR: usize = 1024;
+const PAINT: u8 = 0xa5;
+
+pub fn measure() {
+    println!("bytes of stack below the caller of wsf_fold, the most of a group");
+    let groups = [
+        ("typical scripts", typical()),
+        ("the largest accepted files", largest()),
+        ("most folds", most_folds()),
+        ("the deepest nests", deepest()),
+        ("refused files", refused()),
+    ];
+    for (what, classes) in groups {
+        let most = classes.iter().map(|class| (most_of(class), &class.what)).max();
+        let (bytes, which) = most.expect("no group is empty");
+        println!("{what}: {bytes} ({which})");
+    }
+}
+
+fn most_of(class: &Class) -> usize {
+    let used = |file: &[u8], room: usize| on_stack(STACK_BYTES, || used_by(file, room));
+    class.cases.iter().map(|case| used(&case.file, case.room)).max().unwrap_or(0)
+}
+
+fn used_by(file: &[u8], room: usize) -> usize {
+    let mut output = vec![0; MOST_ROOM];
+    let here = &raw const output as usize;
+    paint(here);
+    call(file, &mut output[..room]);
+    here - lowest_change(here)
+}
+
+/// The painted bytes, which all lie within the thread's stack and below what is in use.
+fn painted(here: usize) -> impl Iterator<Item = usize> {
+    here - PAINTED..here - NEAR
+}
+
+#[inline(never)]
+fn paint(here: usize) {
+    for at in painted(here) {
+        // SAFETY: the thread's stack reaches further down, and nothing below this frame is in use.
+        unsafe { (at as *mut u8).write_volatile(PAINT) };
+    }
+}
+
+#[inline(never)]
+fn lowest_change(here: usize) -> usize {
+    // SAFETY: as above; the bytes were painted.
+    let changed = |&at: &usize| unsafe { (at as *const u8).read_volatile() } != PAINT;
+    painted(here).find(changed).unwrap_or(here - NEAR)
+}
