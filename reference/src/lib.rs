@@ -8,6 +8,7 @@ pub mod build;
 #[rustfmt::skip] // the text is that of the crate
 mod carried;
 mod checks;
+pub mod command_line;
 pub mod commands;
 mod context;
 mod convert;

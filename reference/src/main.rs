@@ -4,24 +4,14 @@ use std::io::{self, BufWriter, Read, Write};
 use std::path::Path;
 use std::process::ExitCode;
 
+use reference::command_line::exit_code;
 use reference::commands::batch::{FAMILIES, batch};
 use reference::commands::check::{FULL, SHORT, check_all};
 use reference::commands::write::write_all;
 use reference::{answers, fold, foldlist, origin};
 
-/// The carried functions recurse, and a tree may be nearly 3,000 deep.
-const STACK_BYTES: usize = 512 << 20;
-
 fn main() -> ExitCode {
-    let work = std::thread::Builder::new().stack_size(STACK_BYTES).spawn(run);
-    let outcome = work.expect("a thread starts").join().expect("the work doesn't panic");
-    match outcome {
-        Ok(()) => ExitCode::SUCCESS,
-        Err(what) => {
-            eprintln!("{what}");
-            ExitCode::FAILURE
-        }
-    }
+    exit_code(run)
 }
 
 fn run() -> Result<(), String> {

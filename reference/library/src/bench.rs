@@ -7,7 +7,7 @@ use reference::fold::fold;
 use reference::generate::case::Case;
 
 use crate::call::{MOST_ROOM, call};
-use crate::inputs::{Class, deepest, largest, most_folds, refused, typical};
+use crate::inputs::{Class, groups};
 
 /// A sample takes at least so long, and the least time of so many samples counts.
 const SAMPLE: Duration = Duration::from_millis(20);
@@ -16,14 +16,7 @@ const SAMPLES: usize = 5;
 pub fn bench_all() {
     println!("microseconds for a file, the least of {SAMPLES} samples; library / reference");
     println!("{:<44} {:>6} {:>11} {:>11} {:>8}", "", "files", "reference", "library", "ratio");
-    let groups = [
-        ("typical scripts", typical()),
-        ("the largest accepted files", largest()),
-        ("most folds", most_folds()),
-        ("the deepest nests", deepest()),
-        ("refused files", refused()),
-    ];
-    for (what, classes) in groups {
+    for (what, classes) in groups() {
         println!("{what}");
         let logarithms: f64 = classes.iter().map(|class| bench_class(class).ln()).sum();
         let mean = (logarithms / classes.len() as f64).exp();

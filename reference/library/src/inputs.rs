@@ -20,7 +20,7 @@ fn class(what: impl Into<String>, cases: Vec<Case>) -> Class {
 }
 
 /// Scripts as a bench has them.
-pub fn typical() -> Vec<Class> {
+fn typical() -> Vec<Class> {
     let of_scripts = scripts().iter().map(|it| Case::of_records(it.text, &it.file)).collect();
     vec![
         class("the twelve scripts", of_scripts),
@@ -40,7 +40,7 @@ fn random_of(size: usize, nodes: std::ops::Range<u16>, count: usize) -> Vec<Case
 }
 
 /// The largest files that are accepted.
-pub fn largest() -> Vec<Class> {
+fn largest() -> Vec<Class> {
     let accepted = limits().into_iter().filter(|case| case.expected == Some(0));
     let large = accepted.filter(|case| case.file.len() > 2000 * NODE_BYTES);
     let mut classes: Vec<Class> = large.map(|case| class(case.what.clone(), vec![case])).collect();
@@ -49,7 +49,7 @@ pub fn largest() -> Vec<Class> {
 }
 
 /// As many folds as there can be, all into one statement.
-pub fn most_folds() -> Vec<Class> {
+fn most_folds() -> Vec<Class> {
     const NAMES: u16 = 256;
     let declare = |name: u16| Line::declare(statement::LET, name, Tree::literal());
     let read = |tree: &dyn Fn(u16) -> Tree| {
@@ -69,13 +69,13 @@ pub fn most_folds() -> Vec<Class> {
 }
 
 /// Each nest, as deep as can be.
-pub fn deepest() -> Vec<Class> {
+fn deepest() -> Vec<Class> {
     let of = |(what, file): &(_, _)| class(what, vec![Case::of_records(what, file)]);
     nests().iter().map(of).collect()
 }
 
 /// Files that each row refuses.
-pub fn refused() -> Vec<Class> {
+fn refused() -> Vec<Class> {
     let row = |number: u32| {
         let cases = refusals().into_iter().filter(|case| case.expected == Some(number));
         class(format!("refused with {number}"), cases.collect())
@@ -87,4 +87,15 @@ pub fn refused() -> Vec<Class> {
     classes.retain(|class| !class.cases.is_empty());
     classes.push(class("refused with 11, the longest file", vec![longest.in_room(room)]));
     classes
+}
+
+/// The classes of files, in groups.
+pub fn groups() -> [(&'static str, Vec<Class>); 5] {
+    [
+        ("typical scripts", typical()),
+        ("the largest accepted files", largest()),
+        ("most folds", most_folds()),
+        ("the deepest nests", deepest()),
+        ("refused files", refused()),
+    ]
 }

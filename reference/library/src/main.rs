@@ -11,9 +11,7 @@ mod stack;
 use std::process::ExitCode;
 
 use amount::{FULL, SHORT};
-
-/// The reference recurses, and a tree may be nearly 3,000 deep.
-const STACK_BYTES: usize = 512 << 20;
+use reference::command_line::exit_code;
 
 const USAGE: &str = "\
 library compare [--short] [SEED]   compare the library with the reference, case by case
@@ -22,15 +20,7 @@ library stack                      the stack that a fold of the deepest trees ne
 ";
 
 fn main() -> ExitCode {
-    let work = std::thread::Builder::new().stack_size(STACK_BYTES).spawn(run);
-    let outcome = work.expect("a thread starts").join().expect("the work doesn't panic");
-    match outcome {
-        Ok(()) => ExitCode::SUCCESS,
-        Err(what) => {
-            eprintln!("{what}");
-            ExitCode::FAILURE
-        }
-    }
+    exit_code(run)
 }
 
 fn run() -> Result<(), String> {

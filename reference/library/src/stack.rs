@@ -2,7 +2,7 @@
 //! call the lowest byte that has changed is looked for.
 
 use crate::call::{MOST_ROOM, call, on_stack};
-use crate::inputs::{Class, deepest, largest, most_folds, refused, typical};
+use crate::inputs::{Class, groups};
 
 /// The thread's stack; of it so much is painted below the caller.
 const STACK_BYTES: usize = 32 << 20;
@@ -13,14 +13,7 @@ const PAINT: u8 = 0xa5;
 
 pub fn measure() {
     println!("bytes of stack below the caller of wsf_fold, the most of a group");
-    let groups = [
-        ("typical scripts", typical()),
-        ("the largest accepted files", largest()),
-        ("most folds", most_folds()),
-        ("the deepest nests", deepest()),
-        ("refused files", refused()),
-    ];
-    for (what, classes) in groups {
+    for (what, classes) in groups() {
         let most = classes.iter().map(|class| (most_of(class), &class.what)).max();
         let (bytes, which) = most.expect("no group is empty");
         println!("{what}: {bytes} ({which})");
