@@ -18,8 +18,8 @@ pub enum Folded {
     Written(usize, usize),
 }
 
-// The fold over tables that are lent: nodes, 16 bytes each; declarators and statements, 4 bytes each; where the declarators'
-// trees begin.
+// The fold of an accepted file over tables that are lent: nodes, 16 bytes each; declarators and statements, 4 bytes each; where
+// the declarators' trees begin.
 fn fold_over(
     file: &[u8],
     output: &mut [u8],
@@ -28,6 +28,7 @@ fn fold_over(
     starts: &mut [usize],
     statements: &mut [u8],
 ) -> Folded
+    requires { ⌜ refusalOf (now file) (length (now output)) ≡ 0 ⌝ }
     requires { ⌜ 48000 ≤ length (now nodes) ⌝ }
     requires { ⌜ 2000 ≤ length (now declarators) ⌝ }
     requires { ⌜ 500 ≤ length (now starts) ⌝ }
@@ -35,28 +36,22 @@ fn fold_over(
     ensures { λ r. ⌜ numbers r ≡ numbersOf (foldBytes (now (file .entry)) (length (now (output .entry)))) ⌝ }
     ensures { λ _. ⌜ now (output .exit) ≡ laidOver (foldBytes (now (file .entry)) (length (now (output .entry)))) (now (output .entry)) ⌝ }
 {
-    let number = number_of(refusal(file, output.len()));
-    if number == 0 {
-        let h = header_of(file);
-        let t = fold_statements(file, h, nodes, declarators, starts, statements);
-        let counts = Counts {
-            nodes: t.used,
-            declarators: t.many,
-            statements: t.count,
-        };
-        let length = put_result(output, file, h, nodes, declarators, statements, counts);
-        return Folded::Written(length, t.folds);
-    }
-    Folded::Refused(number)
+    let h = header_of(file);
+    let t = fold_statements(file, h, nodes, declarators, starts, statements);
+    let counts = Counts {
+        nodes: t.used,
+        declarators: t.many,
+        statements: t.count,
+    };
+    let length = put_result(output, file, h, nodes, declarators, statements, counts);
+    Folded::Written(length, t.folds)
 }
 
-// Folds the record file `file` and lays the result down at the start of `output`; a refusal leaves `output` as it is, and so
-// it is with every byte past the result. What is returned and written is the definition `foldBytes`, of which demand 3 is
-// proved (`demand/proofs/Demand3.antt`): the run of the result is the run of the file.
-pub fn fold(file: &[u8], output: &mut [u8]) -> Folded
+// The tables of the limits.
+fn fold_accepted(file: &[u8], output: &mut [u8]) -> Folded
+    requires { ⌜ refusalOf (now file) (length (now output)) ≡ 0 ⌝ }
     ensures { λ r. ⌜ numbers r ≡ numbersOf (foldBytes (now (file .entry)) (length (now (output .entry)))) ⌝ }
     ensures { λ _. ⌜ now (output .exit) ≡ laidOver (foldBytes (now (file .entry)) (length (now (output .entry)))) (now (output .entry)) ⌝ }
-    ensures { λ _. ⌜ (refusalOf (now (file .entry)) (length (now (output .entry))) ≡ 0 → refusalOf (foldBytes (now (file .entry)) (length (now (output .entry))) .result) (length (now (output .entry))) ≡ 0) ⌝ }
 {
     let mut nodes = [0u8; 48000];
     let mut declarators = [0u8; 2000];
@@ -70,4 +65,20 @@ pub fn fold(file: &[u8], output: &mut [u8]) -> Folded
         &mut starts,
         &mut statements,
     )
+}
+
+// Folds the record file `file` and lays the result down at the start of `output`; a refusal leaves `output` as it is, and so
+// it is with every byte past the result. What is returned and written is the definition `foldBytes`, of which demand 3 is
+// proved (`demand/proofs/Demand3.antt`): the run of the result is the run of the file. A file is refused before any table is
+// made.
+pub fn fold(file: &[u8], output: &mut [u8]) -> Folded
+    ensures { λ r. ⌜ numbers r ≡ numbersOf (foldBytes (now (file .entry)) (length (now (output .entry)))) ⌝ }
+    ensures { λ _. ⌜ now (output .exit) ≡ laidOver (foldBytes (now (file .entry)) (length (now (output .entry)))) (now (output .entry)) ⌝ }
+    ensures { λ _. ⌜ (refusalOf (now (file .entry)) (length (now (output .entry))) ≡ 0 → refusalOf (foldBytes (now (file .entry)) (length (now (output .entry))) .result) (length (now (output .entry))) ≡ 0) ⌝ }
+{
+    let number = number_of(refusal(file, output.len()));
+    if number == 0 {
+        return fold_accepted(file, output);
+    }
+    Folded::Refused(number)
 }

@@ -106,13 +106,13 @@ module _ (ctx : Context) (ks : List Kept) where
   first-alike d ds (given t) e = (withTree d (substituteInStatement ctx ks t .result .target), record { alone = refl; before = refl; left-is = refl; trace-is = refl })
 
   -- A declaration with declarators: the first is taken, then the later ones.
-  pub fold-declaration : (number : ℕ) (kind : DeclarationKind) (d : Declarator) (ds : List Declarator) (searched : Bool) → searched ≡ not (isUnsearched ctx || isUsing kind)
+  pub handle-variable-declaration : (number : ℕ) (kind : DeclarationKind) (d : Declarator) (ds : List Declarator) (searched : Bool) → searched ≡ not (isUnsearched ctx || isUsing kind)
       → let w = inFirstDeclarator ctx ks (d ∷ []) in
       let v = laterDeclarators ctx (inFileOrder (w .result .left)) kind searched (w .result .target) ds in
       (foldStatement ctx number ks (declaration kind (d ∷ ds)) .result ≡ record { number = number; statement = declaration kind (reverse (v .result)) } ∷ w .result .left)
       × (length (foldStatement ctx number ks (declaration kind (d ∷ ds)) .trace) ≡ length (w .trace) + length (v .trace))
   unfolding foldStatement inFirstDeclarator pure _>>=_
-  fold-declaration number kind d ds searched es =
+  handle-variable-declaration number kind d ds searched es =
       let (d′, a) = first-alike d ds (d .initializer) refl in
       let v = inInitializer ctx ks d ds (d .initializer) in
       let w = inInitializer ctx ks d [] (d .initializer) in
@@ -135,11 +135,11 @@ module _ (ctx : Context) (ks : List Kept) where
       by true = (refl, refl)
       by false = (refl, refl)
 
-  pub fold-expression : (number : ℕ) (t : Tree)
+  pub handle-expression-statement : (number : ℕ) (t : Tree)
       → (foldStatement ctx number ks (expression t) .result ≡ record { number = number; statement = expression (substituteInStatement ctx ks t .result .target) } ∷ substituteInStatement ctx ks t .result .left)
       × (length (foldStatement ctx number ks (expression t) .trace) ≡ length (substituteInStatement ctx ks t .trace))
   unfolding foldStatement pure _>>=_
-  fold-expression number t = (refl, rw append-nil)
+  handle-expression-statement number t = (refl, rw append-nil)
 
   pub fold-other : (number : ℕ)
       → (foldStatement ctx number ks other .result ≡ record { number = number; statement = other } ∷ ks) × (length (foldStatement ctx number ks other .trace) ≡ 0)

@@ -23,7 +23,7 @@ use Rattle.folding.specs.Next.{CanTakeNext, SearchedFromStatements}
 use Rattle.folding.specs.Declarators.{CanTakeFirst, TakenFirst, laterDeclarators, CanTakeAll, TakenAll}
 use Rattle.folding.specs.Folds.{Taking, CanFold, Folds}
 use Rattle.folding.proofs.Pushes.{becomes-expression, becomes-other, becomes-declaration, statement-state}
-use Rattle.folding.proofs.Definitions.{fold-declaration, fold-empty, fold-expression, fold-other}
+use Rattle.folding.proofs.Definitions.{handle-variable-declaration, fold-empty, handle-expression-statement, fold-other}
 
 -- What a statement is, by its record.
 pub data Declared (s : StatementRecord) : Statement → Type 0 where
@@ -182,7 +182,7 @@ module _ (ctx : Context) (file : List ℕ) (h : Header) (nodes records starts st
           by _ (expressed t) a e =
               let (rest′, before′, s′, f) = w ks t (allTrees ss) (declaratorRecords (allDeclarators ss)) (suc (length ss)) rest before (expression-state t ss a) in
               let t′ = substituteInStatement ctx ks t .result .target in
-              let (x, y) = fold-expression ctx ks number t in
+              let (x, y) = handle-expression-statement ctx ks number t in
               let b = statement-state number (expression t′) (becomes-expression t′) s′ pushed e in
               (rest′, before′, rw (er, x) b, rw (er, y) f)
 
@@ -258,5 +258,5 @@ module _ (ctx : Context) (file : List ℕ) (h : Header) (nodes records starts st
                 let is : x ≡ statementRecord (declaration kind (reverse (v .result))) = ex ∙ (λ i. record { kind = ek i; zero = 0; declarators = many i }) in
                 let b = statement-state number (declaration kind (reverse (v .result))) (becomes-declaration kind (v .result)) s′ pushed is in
                 let same : searched ≡ not (isUnsearched ctx || isUsing kind) = es ∙ ap (λ (c : DeclarationKind). not (isUnsearched ctx || isUsing c)) (ap declarationKind ek ∙ kind-again kind) in
-                let (u, y) = fold-declaration ctx ks number kind d ds searched same in
+                let (u, y) = handle-variable-declaration ctx ks number kind d ds searched same in
                 (rest′, before′, rw (er, u) b, rw (er, y) m)

@@ -8,7 +8,7 @@ ghost use Rattle.walk.specs.Context.{contextOf};
 ghost use Rattle.folding.specs.State.{Long};
 ghost use Rattle.folding.specs.Declarators.{CanTakeFirst, TakenFirst};
 ghost use Rattle.folding.specs.Folds.{CanFold, Folds};
-use crate::later::fold_later_declarators;
+use crate::later::substitute_single_use_symbol_within_declaration;
 use crate::next::next_declarator;
 use crate::next::substitute_in_next_tree;
 use crate::progress::Progress;
@@ -44,7 +44,7 @@ fn fold_first_declarator(
     push_declarator(declarators, starts, d, p)
 }
 
-pub(crate) fn fold_declaration(
+pub(crate) fn handle_variable_declaration(
     file: &[u8],
     h: Header,
     nodes: &mut [u8],
@@ -68,7 +68,7 @@ pub(crate) fn fold_declaration(
     let first = fold_first_declarator(file, h, nodes, declarators, starts, statements, p);
     let low = first.many - 1;
     let searched = !(is_unsearched(file, h) | is_using(s.kind));
-    let last = fold_later_declarators(
+    let last = substitute_single_use_symbol_within_declaration(
         file,
         h,
         nodes,

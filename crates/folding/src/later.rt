@@ -88,7 +88,7 @@ fn fold_later_declarator(
 }
 
 // The next `many` declarators.
-pub(crate) fn fold_later_declarators(
+pub(crate) fn substitute_single_use_symbol_within_declaration(
     file: &[u8],
     h: Header,
     nodes: &mut [u8],

@@ -6,14 +6,14 @@ ghost use Rattle.records.specs.File.{fileLength, read};
 ghost use Rattle.walk.specs.Context.{contextOf};
 ghost use Rattle.folding.specs.State.{Long};
 ghost use Rattle.folding.specs.Folds.{CanFold, Folds};
-use crate::declaration::fold_declaration;
+use crate::declaration::handle_variable_declaration;
 use crate::next::substitute_in_next_tree;
 use crate::progress::Progress;
 use crate::push::push_statement;
 use records::layout::Header;
 use records::layout::StatementRecord;
 
-fn fold_expression(
+fn handle_expression_statement(
     file: &[u8],
     h: Header,
     nodes: &mut [u8],
@@ -51,10 +51,10 @@ pub(crate) fn fold_statement(
     ensures { λ r. ⌜ Folds (contextOf (read (now (file .entry)))) (now (file .entry)) h (now (nodes .entry)) (now (nodes .exit)) (now (declarators .entry)) (now (declarators .exit)) (now (starts .entry)) (now (starts .exit)) (now (statements .entry)) (now (statements .exit)) s p r ⌝ }
 {
     if s.kind == 5 {
-        return fold_expression(file, h, nodes, declarators, starts, statements, s, p);
+        return handle_expression_statement(file, h, nodes, declarators, starts, statements, s, p);
     }
     if s.kind == 6 {
         return push_statement(statements, s, p);
     }
-    fold_declaration(file, h, nodes, declarators, starts, statements, s, p)
+    handle_variable_declaration(file, h, nodes, declarators, starts, statements, s, p)
 }

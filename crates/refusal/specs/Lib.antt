@@ -1,2 +1,3 @@
--- The answer and its number.
+-- The answer and its number; a header that passes.
 pub mod Number
+pub mod Passing

@@ -4,6 +4,7 @@ ghost use Prim.Native.Nat.{_≤_, _<_};
 ghost use lib.ListN.{length};
 ghost use Rattle.records.specs.Refusal.{refusal as refusalOf};
 ghost use Rattle.refusal.specs.Number.{number};
+ghost use Rattle.refusal.specs.Passing.{HeaderPasses};
 ghost use Rattle.uses.specs.Tally.{Tally};
 use crate::answer::Refusal;
 use crate::file_rows::counts_are_bad;
@@ -17,17 +18,20 @@ use records::header::not_a_script;
 use records::header::other_length;
 use records::header::other_version;
 use records::header::outside_limits;
+use records::layout::Header;
 use records::layout::header_of;
 
-// The table's tests, over arrays with a place for each node and each name.
+// The rows behind those of the header, over arrays with a place for each node and each name.
 fn check(
     file: &[u8],
+    h: Header,
     room: usize,
     stack: &mut [u16],
     reads: &mut [u16],
     targets: &mut [u16],
     seen: &mut [u8],
 ) -> Refusal
+    requires { ⌜ HeaderPasses (now file) h ⌝ }
     requires { ⌜ 3000 ≤ length (now stack) ⌝ }
     requires { ⌜ 256 ≤ length (now reads) ⌝ }
     requires { ⌜ 256 ≤ length (now targets) ⌝ }
@@ -38,21 +42,6 @@ fn check(
     requires { ⌜ Tally (λ k. 0) (now seen) ⌝ }
     ensures { λ r. ⌜ number r ≡ refusalOf (now (file .entry)) room ⌝ }
 {
-    if not_a_script(file) {
-        return Refusal::NotAScript;
-    }
-    let h = header_of(file);
-    let other = other_version(h);
-    let outside = outside_limits(h);
-    if other {
-        return Refusal::OtherVersion;
-    }
-    if outside {
-        return Refusal::OutsideLimits;
-    }
-    if other_length(file, h) {
-        return Refusal::OtherLength;
-    }
     if facts_are_bad(file, h) {
         return Refusal::BadFacts;
     }
@@ -78,13 +67,44 @@ fn check(
     Refusal::Accepted
 }
 
-// Whether a file and a room for its result are accepted, or the row of the table that refuses them. Any bytes.
-pub fn refusal(file: &[u8], room: usize) -> Refusal
+// The arrays are made where the header passes.
+fn check_records(file: &[u8], h: Header, room: usize) -> Refusal
+    requires { ⌜ HeaderPasses (now file) h ⌝ }
     ensures { λ r. ⌜ number r ≡ refusalOf (now (file .entry)) room ⌝ }
 {
     let mut stack = [0u16; 3000];
     let mut reads = [0u16; 256];
     let mut targets = [0u16; 256];
     let mut seen = [0u8; 256];
-    check(file, room, &mut stack, &mut reads, &mut targets, &mut seen)
+    check(
+        file,
+        h,
+        room,
+        &mut stack,
+        &mut reads,
+        &mut targets,
+        &mut seen,
+    )
+}
+
+// Whether a file and a room for its result are accepted, or the row of the table that refuses them. Any bytes.
+pub fn refusal(file: &[u8], room: usize) -> Refusal
+    ensures { λ r. ⌜ number r ≡ refusalOf (now (file .entry)) room ⌝ }
+{
+    if not_a_script(file) {
+        return Refusal::NotAScript;
+    }
+    let h = header_of(file);
+    let other = other_version(h);
+    let outside = outside_limits(h);
+    if other {
+        return Refusal::OtherVersion;
+    }
+    if outside {
+        return Refusal::OutsideLimits;
+    }
+    if other_length(file, h) {
+        return Refusal::OtherLength;
+    }
+    check_records(file, h, room)
 }

@@ -2,25 +2,19 @@
 use native.Mathlib.Omega.{arith}
 use mathlib.Core.Path.{_≡_, refl, sym, ap, _∙_, subst}
 use lib.ListN.{length}
-use Rattle.fold.proofs.Returning.{refused-numbers, refused-output, long-header, long-file, countable, held, has-room, written-numbers, written-output}
+use Rattle.fold.proofs.Returning.{long-header, long-file, countable, held, has-room, written-numbers, written-output}
 use borrow.Author.Needs.{needs}
 use Rattle.fold.proofs.fold_over.Statement.{statement}
 use Rattle.fold.proofs.fold_over.Tie as tie
 
-refusal-requires : tie.Need-refusal-requires
-refusal-requires c κs = search needs
-
-number-of-requires : tie.Need-number-of-requires
-number-of-requires c κs = search needs
-
 header-of-requires : tie.Need-header-of-requires
-header-of-requires c κs = long-header ((c .before .before .before .before .before .before .before .before .before) .args .file .now) (length ((c .before .before .before .before .before .before .before .before .before) .args .output .now)) (sym ((c .before .number-of) .ensures ∙ (c .before .before .refusal) .ensures) ∙ (c .if1) .taken)
+header-of-requires c κs = long-header ((c .before .before .before .before .before .before) .args .file .now) (length ((c .before .before .before .before .before .before) .args .output .now)) ((c .before .before .before .before .before .before) .pre .0)
 
 fold-statements-requires : tie.Need-fold-statements-requires
-fold-statements-requires c κs = ((c .before .before .before .before .header-of) .ensures, (long-file ((c .before .before .before .before .before .before .before .before .before .before .before .before .before .before) .args .file .now) (length ((c .before .before .before .before .before .before .before .before .before .before .before .before .before .before) .args .output .now)) (sym ((c .before .before .before .before .before .before .number-of) .ensures ∙ (c .before .before .before .before .before .before .before .refusal) .ensures) ∙ (c .before .before .before .before .before .if1) .taken) ((c .before .before .before .before .header-of) .result) ((c .before .before .before .before .header-of) .ensures), (((length ((c .before .before .before .before .before .before .before .before .before .before .before .before .before .before) .args .output .now)), (sym ((c .before .before .before .before .before .before .number-of) .ensures ∙ (c .before .before .before .before .before .before .before .refusal) .ensures) ∙ (c .before .before .before .before .before .if1) .taken)), ((c .before .before .before .before .before .before .before .before .before .before .before .before .before .before) .pre .0, (c .before .before .before .before .before .before .before .before .before .before .before .before .before .before) .pre .1 .0, (c .before .before .before .before .before .before .before .before .before .before .before .before .before .before) .pre .1 .1 .0, (c .before .before .before .before .before .before .before .before .before .before .before .before .before .before) .pre .1 .1 .1))))
+fold-statements-requires c κs = ((c .before .before .before .before .header-of) .ensures, (long-file ((c .before .before .before .before .before .before .before .before .before .before .before) .args .file .now) (length ((c .before .before .before .before .before .before .before .before .before .before .before) .args .output .now)) ((c .before .before .before .before .before .before .before .before .before .before .before) .pre .0) ((c .before .before .before .before .header-of) .result) ((c .before .before .before .before .header-of) .ensures), (((length ((c .before .before .before .before .before .before .before .before .before .before .before) .args .output .now)), ((c .before .before .before .before .before .before .before .before .before .before .before) .pre .0)), ((c .before .before .before .before .before .before .before .before .before .before .before) .pre .1 .0, (c .before .before .before .before .before .before .before .before .before .before .before) .pre .1 .1 .0, (c .before .before .before .before .before .before .before .before .before .before .before) .pre .1 .1 .1 .0, (c .before .before .before .before .before .before .before .before .before .before .before) .pre .1 .1 .1 .1))))
 
 put-result-requires : tie.Need-put-result-requires
-put-result-requires c κs = ((c .before .before .before .before .before .before .before .before .before .before .before .before .before .before .before .before .before .header-of) .ensures, (long-file ((c .before .before .before .before .before .before .before .before .before .before .before .before .before .before .before .before .before .before .before .before .before .before .before .before .before .before .before) .args .file .now) (length ((c .before .before .before .before .before .before .before .before .before .before .before .before .before .before .before .before .before .before .before .before .before .before .before .before .before .before .before) .args .output .now)) (sym ((c .before .before .before .before .before .before .before .before .before .before .before .before .before .before .before .before .before .before .before .number-of) .ensures ∙ (c .before .before .before .before .before .before .before .before .before .before .before .before .before .before .before .before .before .before .before .before .refusal) .ensures) ∙ (c .before .before .before .before .before .before .before .before .before .before .before .before .before .before .before .before .before .before .if1) .taken) ((c .before .before .before .before .before .before .before .before .before .before .before .before .before .before .before .before .before .header-of) .result) ((c .before .before .before .before .before .before .before .before .before .before .before .before .before .before .before .before .before .header-of) .ensures), (countable ((c .before .before .before .before .before .before .before .before .before .before .before .before .before .before .before .before .before .before .before .before .before .before .before .before .before .before .before) .args .file .now) (length ((c .before .before .before .before .before .before .before .before .before .before .before .before .before .before .before .before .before .before .before .before .before .before .before .before .before .before .before) .args .output .now)) (sym ((c .before .before .before .before .before .before .before .before .before .before .before .before .before .before .before .before .before .before .before .number-of) .ensures ∙ (c .before .before .before .before .before .before .before .before .before .before .before .before .before .before .before .before .before .before .before .before .refusal) .ensures) ∙ (c .before .before .before .before .before .before .before .before .before .before .before .before .before .before .before .before .before .before .if1) .taken) _ _ _ ((c .before .before .before .before .before .before .before .before .before .before .before .before .fold-statements) .result) (((c .before .before .before .before .before .before .before .before .before .before .before .before .fold-statements) .ensures) .0) (((c .before .before .before .before .before .before .before .before .before .before .before .before .fold-statements) .ensures) .1) (((c .before .before .before .before .before .before .before .before .before .before .before .before .fold-statements) .ensures) .2) (((c .before .before .before .before .before .before .before .before .before .before .before .before .fold-statements) .ensures) .3), (held ((c .before .before .before .before .before .before .before .before .before .before .before .before .before .before .before .before .before .before .before .before .before .before .before .before .before .before .before) .args .file .now) (length ((c .before .before .before .before .before .before .before .before .before .before .before .before .before .before .before .before .before .before .before .before .before .before .before .before .before .before .before) .args .output .now)) (sym ((c .before .before .before .before .before .before .before .before .before .before .before .before .before .before .before .before .before .before .before .number-of) .ensures ∙ (c .before .before .before .before .before .before .before .before .before .before .before .before .before .before .before .before .before .before .before .before .refusal) .ensures) ∙ (c .before .before .before .before .before .before .before .before .before .before .before .before .before .before .before .before .before .before .if1) .taken) _ _ _ ((c .before .before .before .before .before .before .before .before .before .before .before .before .fold-statements) .result) (((c .before .before .before .before .before .before .before .before .before .before .before .before .fold-statements) .ensures) .0) (((c .before .before .before .before .before .before .before .before .before .before .before .before .fold-statements) .ensures) .1) (((c .before .before .before .before .before .before .before .before .before .before .before .before .fold-statements) .ensures) .2) (((c .before .before .before .before .before .before .before .before .before .before .before .before .fold-statements) .ensures) .3) (omega (arith, (c .before .before .before .before .before .before .before .before .before .before .before .before .before .before .before .before .before .before .before .before .before .before .before .before .before .before .before) .pre .0, (c .before .before .before .before .before .before .before .before .before .before .before .before .fold-statements) .kept .1 .1 .0)) (omega (arith, (c .before .before .before .before .before .before .before .before .before .before .before .before .before .before .before .before .before .before .before .before .before .before .before .before .before .before .before) .pre .1 .0, (c .before .before .before .before .before .before .before .before .before .before .before .before .fold-statements) .kept .1 .1 .1 .0)) (omega (arith, (c .before .before .before .before .before .before .before .before .before .before .before .before .before .before .before .before .before .before .before .before .before .before .before .before .before .before .before) .pre .1 .1 .1, (c .before .before .before .before .before .before .before .before .before .before .before .before .fold-statements) .kept .1 .1 .1 .1 .1 .0)), has-room ((c .before .before .before .before .before .before .before .before .before .before .before .before .before .before .before .before .before .before .before .before .before .before .before .before .before .before .before) .args .file .now) (length ((c .before .before .before .before .before .before .before .before .before .before .before .before .before .before .before .before .before .before .before .before .before .before .before .before .before .before .before) .args .output .now)) (sym ((c .before .before .before .before .before .before .before .before .before .before .before .before .before .before .before .before .before .before .before .number-of) .ensures ∙ (c .before .before .before .before .before .before .before .before .before .before .before .before .before .before .before .before .before .before .before .before .refusal) .ensures) ∙ (c .before .before .before .before .before .before .before .before .before .before .before .before .before .before .before .before .before .before .if1) .taken) _ _ _ ((c .before .before .before .before .before .before .before .before .before .before .before .before .fold-statements) .result) (((c .before .before .before .before .before .before .before .before .before .before .before .before .fold-statements) .ensures) .0) (((c .before .before .before .before .before .before .before .before .before .before .before .before .fold-statements) .ensures) .1) (((c .before .before .before .before .before .before .before .before .before .before .before .before .fold-statements) .ensures) .2) (((c .before .before .before .before .before .before .before .before .before .before .before .before .fold-statements) .ensures) .3) ((c .before .before .before .before .before .before .before .before .before .before .before .before .before .before .before .before .before .header-of) .result) ((c .before .before .before .before .before .before .before .before .before .before .before .before .before .before .before .before .before .header-of) .ensures)))))
+put-result-requires c κs = ((c .before .before .before .before .before .before .before .before .before .before .before .before .before .before .before .before .before .header-of) .ensures, (long-file ((c .before .before .before .before .before .before .before .before .before .before .before .before .before .before .before .before .before .before .before .before .before .before .before .before) .args .file .now) (length ((c .before .before .before .before .before .before .before .before .before .before .before .before .before .before .before .before .before .before .before .before .before .before .before .before) .args .output .now)) ((c .before .before .before .before .before .before .before .before .before .before .before .before .before .before .before .before .before .before .before .before .before .before .before .before) .pre .0) ((c .before .before .before .before .before .before .before .before .before .before .before .before .before .before .before .before .before .header-of) .result) ((c .before .before .before .before .before .before .before .before .before .before .before .before .before .before .before .before .before .header-of) .ensures), (countable ((c .before .before .before .before .before .before .before .before .before .before .before .before .before .before .before .before .before .before .before .before .before .before .before .before) .args .file .now) (length ((c .before .before .before .before .before .before .before .before .before .before .before .before .before .before .before .before .before .before .before .before .before .before .before .before) .args .output .now)) ((c .before .before .before .before .before .before .before .before .before .before .before .before .before .before .before .before .before .before .before .before .before .before .before .before) .pre .0) _ _ _ ((c .before .before .before .before .before .before .before .before .before .before .before .before .fold-statements) .result) (((c .before .before .before .before .before .before .before .before .before .before .before .before .fold-statements) .ensures) .0) (((c .before .before .before .before .before .before .before .before .before .before .before .before .fold-statements) .ensures) .1) (((c .before .before .before .before .before .before .before .before .before .before .before .before .fold-statements) .ensures) .2) (((c .before .before .before .before .before .before .before .before .before .before .before .before .fold-statements) .ensures) .3), (held ((c .before .before .before .before .before .before .before .before .before .before .before .before .before .before .before .before .before .before .before .before .before .before .before .before) .args .file .now) (length ((c .before .before .before .before .before .before .before .before .before .before .before .before .before .before .before .before .before .before .before .before .before .before .before .before) .args .output .now)) ((c .before .before .before .before .before .before .before .before .before .before .before .before .before .before .before .before .before .before .before .before .before .before .before .before) .pre .0) _ _ _ ((c .before .before .before .before .before .before .before .before .before .before .before .before .fold-statements) .result) (((c .before .before .before .before .before .before .before .before .before .before .before .before .fold-statements) .ensures) .0) (((c .before .before .before .before .before .before .before .before .before .before .before .before .fold-statements) .ensures) .1) (((c .before .before .before .before .before .before .before .before .before .before .before .before .fold-statements) .ensures) .2) (((c .before .before .before .before .before .before .before .before .before .before .before .before .fold-statements) .ensures) .3) (omega (arith, (c .before .before .before .before .before .before .before .before .before .before .before .before .before .before .before .before .before .before .before .before .before .before .before .before) .pre .1 .0, (c .before .before .before .before .before .before .before .before .before .before .before .before .fold-statements) .kept .1 .1 .0)) (omega (arith, (c .before .before .before .before .before .before .before .before .before .before .before .before .before .before .before .before .before .before .before .before .before .before .before .before) .pre .1 .1 .0, (c .before .before .before .before .before .before .before .before .before .before .before .before .fold-statements) .kept .1 .1 .1 .0)) (omega (arith, (c .before .before .before .before .before .before .before .before .before .before .before .before .before .before .before .before .before .before .before .before .before .before .before .before) .pre .1 .1 .1 .1, (c .before .before .before .before .before .before .before .before .before .before .before .before .fold-statements) .kept .1 .1 .1 .1 .1 .0)), has-room ((c .before .before .before .before .before .before .before .before .before .before .before .before .before .before .before .before .before .before .before .before .before .before .before .before) .args .file .now) (length ((c .before .before .before .before .before .before .before .before .before .before .before .before .before .before .before .before .before .before .before .before .before .before .before .before) .args .output .now)) ((c .before .before .before .before .before .before .before .before .before .before .before .before .before .before .before .before .before .before .before .before .before .before .before .before) .pre .0) _ _ _ ((c .before .before .before .before .before .before .before .before .before .before .before .before .fold-statements) .result) (((c .before .before .before .before .before .before .before .before .before .before .before .before .fold-statements) .ensures) .0) (((c .before .before .before .before .before .before .before .before .before .before .before .before .fold-statements) .ensures) .1) (((c .before .before .before .before .before .before .before .before .before .before .before .before .fold-statements) .ensures) .2) (((c .before .before .before .before .before .before .before .before .before .before .before .before .fold-statements) .ensures) .3) ((c .before .before .before .before .before .before .before .before .before .before .before .before .before .before .before .before .before .header-of) .result) ((c .before .before .before .before .before .before .before .before .before .before .before .before .before .before .before .before .before .header-of) .ensures)))))
 
 same-length : tie.Need-same-length
 same-length c = search needs
@@ -38,17 +32,12 @@ same-length-5 : tie.Need-same-length-5
 same-length-5 c = search needs
 
 returns : tie.Need-returns
-returns c = (written-numbers ((c .before .before .before .before .before .before .before .before .before .before .before .before .before .before .before .before .before .before .before .before .before .before .before .before .before .before .before .before .before .before) .args .file .now) (length ((c .before .before .before .before .before .before .before .before .before .before .before .before .before .before .before .before .before .before .before .before .before .before .before .before .before .before .before .before .before .before) .args .output .now)) (sym ((c .before .before .before .before .before .before .before .before .before .before .before .before .before .before .before .before .before .before .before .before .before .before .number-of) .ensures ∙ (c .before .before .before .before .before .before .before .before .before .before .before .before .before .before .before .before .before .before .before .before .before .before .before .refusal) .ensures) ∙ (c .before .before .before .before .before .before .before .before .before .before .before .before .before .before .before .before .before .before .before .before .before .if1) .taken) _ _ _ ((c .before .before .before .before .before .before .before .before .before .before .before .before .before .before .before .fold-statements) .result) (((c .before .before .before .before .before .before .before .before .before .before .before .before .before .before .before .fold-statements) .ensures) .0) (((c .before .before .before .before .before .before .before .before .before .before .before .before .before .before .before .fold-statements) .ensures) .1) (((c .before .before .before .before .before .before .before .before .before .before .before .before .before .before .before .fold-statements) .ensures) .2) (((c .before .before .before .before .before .before .before .before .before .before .before .before .before .before .before .fold-statements) .ensures) .3) ((c .before .before .before .before .before .before .before .before .before .before .before .before .before .before .before .before .before .before .before .before .before .before .before .before .before .before .before .before .before .before) .args .output .now) _ ((c .before .before .put-result) .ensures), written-output ((c .before .before .before .before .before .before .before .before .before .before .before .before .before .before .before .before .before .before .before .before .before .before .before .before .before .before .before .before .before .before) .args .file .now) (length ((c .before .before .before .before .before .before .before .before .before .before .before .before .before .before .before .before .before .before .before .before .before .before .before .before .before .before .before .before .before .before) .args .output .now)) (sym ((c .before .before .before .before .before .before .before .before .before .before .before .before .before .before .before .before .before .before .before .before .before .before .number-of) .ensures ∙ (c .before .before .before .before .before .before .before .before .before .before .before .before .before .before .before .before .before .before .before .before .before .before .before .refusal) .ensures) ∙ (c .before .before .before .before .before .before .before .before .before .before .before .before .before .before .before .before .before .before .before .before .before .if1) .taken) _ _ _ ((c .before .before .before .before .before .before .before .before .before .before .before .before .before .before .before .fold-statements) .result) (((c .before .before .before .before .before .before .before .before .before .before .before .before .before .before .before .fold-statements) .ensures) .0) (((c .before .before .before .before .before .before .before .before .before .before .before .before .before .before .before .fold-statements) .ensures) .1) (((c .before .before .before .before .before .before .before .before .before .before .before .before .before .before .before .fold-statements) .ensures) .2) (((c .before .before .before .before .before .before .before .before .before .before .before .before .before .before .before .fold-statements) .ensures) .3) ((c .before .before .before .before .before .before .before .before .before .before .before .before .before .before .before .before .before .before .before .before .before .before .before .before .before .before .before .before .before .before) .args .output .now) ((c .before .before .put-result) .ensures))
-
-returns-2 : tie.Need-returns-2
-returns-2 c = (refused-numbers ((c .before .before .before .before .before .before .before .before .before) .args .file .now) (length ((c .before .before .before .before .before .before .before .before .before) .args .output .now)) ((c .before .number-of) .result) ((c .before .number-of) .ensures ∙ (c .before .before .refusal) .ensures) ((c .if1) .left), refused-output ((c .before .before .before .before .before .before .before .before .before) .args .file .now) (length ((c .before .before .before .before .before .before .before .before .before) .args .output .now)) ((c .before .number-of) .result) ((c .before .before .before .before .before .before .before .before .before) .args .output .now) ((c .before .number-of) .ensures ∙ (c .before .before .refusal) .ensures) ((c .if1) .left))
+returns c = (written-numbers ((c .before .before .before .before .before .before .before .before .before .before .before .before .before .before .before .before .before .before .before .before .before .before .before .before .before .before .before) .args .file .now) (length ((c .before .before .before .before .before .before .before .before .before .before .before .before .before .before .before .before .before .before .before .before .before .before .before .before .before .before .before) .args .output .now)) ((c .before .before .before .before .before .before .before .before .before .before .before .before .before .before .before .before .before .before .before .before .before .before .before .before .before .before .before) .pre .0) _ _ _ ((c .before .before .before .before .before .before .before .before .before .before .before .before .before .before .before .fold-statements) .result) (((c .before .before .before .before .before .before .before .before .before .before .before .before .before .before .before .fold-statements) .ensures) .0) (((c .before .before .before .before .before .before .before .before .before .before .before .before .before .before .before .fold-statements) .ensures) .1) (((c .before .before .before .before .before .before .before .before .before .before .before .before .before .before .before .fold-statements) .ensures) .2) (((c .before .before .before .before .before .before .before .before .before .before .before .before .before .before .before .fold-statements) .ensures) .3) ((c .before .before .before .before .before .before .before .before .before .before .before .before .before .before .before .before .before .before .before .before .before .before .before .before .before .before .before) .args .output .now) _ ((c .before .before .put-result) .ensures), written-output ((c .before .before .before .before .before .before .before .before .before .before .before .before .before .before .before .before .before .before .before .before .before .before .before .before .before .before .before) .args .file .now) (length ((c .before .before .before .before .before .before .before .before .before .before .before .before .before .before .before .before .before .before .before .before .before .before .before .before .before .before .before) .args .output .now)) ((c .before .before .before .before .before .before .before .before .before .before .before .before .before .before .before .before .before .before .before .before .before .before .before .before .before .before .before) .pre .0) _ _ _ ((c .before .before .before .before .before .before .before .before .before .before .before .before .before .before .before .fold-statements) .result) (((c .before .before .before .before .before .before .before .before .before .before .before .before .before .before .before .fold-statements) .ensures) .0) (((c .before .before .before .before .before .before .before .before .before .before .before .before .before .before .before .fold-statements) .ensures) .1) (((c .before .before .before .before .before .before .before .before .before .before .before .before .before .before .before .fold-statements) .ensures) .2) (((c .before .before .before .before .before .before .before .before .before .before .before .before .before .before .before .fold-statements) .ensures) .3) ((c .before .before .before .before .before .before .before .before .before .before .before .before .before .before .before .before .before .before .before .before .before .before .before .before .before .before .before) .args .output .now) ((c .before .before .put-result) .ensures))
 
 pub fold-over-spec : {M : Type 1} → statement M
 fold-over-spec =
     tie.close
     (tie.spec
-    refusal-requires
-    number-of-requires
     header-of-requires
     fold-statements-requires
     put-result-requires
@@ -57,5 +46,4 @@ fold-over-spec =
     same-length-3
     same-length-4
     same-length-5
-    returns
-    returns-2)
+    returns)

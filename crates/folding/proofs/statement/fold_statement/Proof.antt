@@ -6,8 +6,8 @@ use borrow.Author.Needs.{needs}
 use Rattle.folding.proofs.statement.fold_statement.Statement.{statement}
 use Rattle.folding.proofs.statement.fold_statement.Tie as tie
 
-fold-expression-requires : tie.Need-fold-expression-requires
-fold-expression-requires c κs = ((c .before .before .before .before .before .before .before .before .before .before .before) .pre .0, ((c .before .before .before .before .before .before .before .before .before .before .before) .pre .1 .0, ((c .before .before .before .before .before .before .before .before .before .before .before) .pre .1 .1 .0, ((c .before .before .before .before .before .before .before .before .before .before .before) .pre .1 .1 .1, (c .before .before .before .before .if1) .taken))))
+handle-expression-statement-requires : tie.Need-handle-expression-statement-requires
+handle-expression-statement-requires c κs = ((c .before .before .before .before .before .before .before .before .before .before .before) .pre .0, ((c .before .before .before .before .before .before .before .before .before .before .before) .pre .1 .0, ((c .before .before .before .before .before .before .before .before .before .before .before) .pre .1 .1 .0, ((c .before .before .before .before .before .before .before .before .before .before .before) .pre .1 .1 .1, (c .before .before .before .before .if1) .taken))))
 
 same-length : tie.Need-same-length
 same-length c = search needs
@@ -33,8 +33,8 @@ same-length-5 c = search needs
 returns-2 : tie.Need-returns-2
 returns-2 c = other-folds (contextOf (read ((c .before .before .before .before .before .before .before .before .before .before .before .before .before) .args .file .now))) ((c .before .before .before .before .before .before .before .before .before .before .before .before .before) .args .file .now) ((c .before .before .before .before .before .before .before .before .before .before .before .before .before) .args .h) ((c .before .before .before .before .before .before .before .before .before .before .before .before .before) .args .nodes .now) ((c .before .before .before .before .before .before .before .before .before .before .before .before .before) .args .declarators .now) ((c .before .before .before .before .before .before .before .before .before .before .before .before .before) .args .starts .now) ((c .before .before .before .before .before .before .before .before .before .before .before .before .before) .args .statements .now) ((c .before .before .before .before .before .before .before .before .before .before .before .before .before) .args .s) ((c .before .before .before .before .before .before .before .before .before .before .before .before .before) .args .p) _ _ ((c .before .before .before .before .if2) .taken) ((c .before .before .push-statement) .ensures .1) ((c .before .before .push-statement) .ensures .0)
 
-fold-declaration-requires : tie.Need-fold-declaration-requires
-fold-declaration-requires c κs =
+handle-variable-declaration-requires : tie.Need-handle-variable-declaration-requires
+handle-variable-declaration-requires c κs =
     let x = fold-kind ((c .before .before .before .before .before .before .before .before .before .before .before .before .before) .args .file .now) ((c .before .before .before .before .before .before .before .before .before .before .before .before .before) .args .h) ((c .before .before .before .before .before .before .before .before .before .before .before .before .before) .args .nodes .now) ((c .before .before .before .before .before .before .before .before .before .before .before .before .before) .args .declarators .now) ((c .before .before .before .before .before .before .before .before .before .before .before .before .before) .args .starts .now) ((c .before .before .before .before .before .before .before .before .before .before .before .before .before) .args .statements .now) ((c .before .before .before .before .before .before .before .before .before .before .before .before .before) .args .s) ((c .before .before .before .before .before .before .before .before .before .before .before .before .before) .args .p) ((c .before .before .before .before .before .before .before .before .before .before .before .before .before) .pre .1 .1 .1) ((c .before .before .before .before .before .before .if1) .left) ((c .before .before .before .before .if2) .left) in
     ((c .before .before .before .before .before .before .before .before .before .before .before .before .before) .pre .0, ((c .before .before .before .before .before .before .before .before .before .before .before .before .before) .pre .1 .0, ((c .before .before .before .before .before .before .before .before .before .before .before .before .before) .pre .1 .1 .0, ((c .before .before .before .before .before .before .before .before .before .before .before .before .before) .pre .1 .1 .1, x))))
 
@@ -57,7 +57,7 @@ pub fold-statement-spec : {M : Type 1} → statement M
 fold-statement-spec =
     tie.close
     (tie.spec
-    fold-expression-requires
+    handle-expression-statement-requires
     same-length
     same-length-2
     same-length-3
@@ -66,7 +66,7 @@ fold-statement-spec =
     push-statement-requires
     same-length-5
     returns-2
-    fold-declaration-requires
+    handle-variable-declaration-requires
     same-length-6
     same-length-7
     same-length-8

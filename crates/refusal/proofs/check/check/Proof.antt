@@ -3,75 +3,45 @@ use mathlib.Core.Path.{_≡_, refl, sym, ap, _∙_}
 use native.Mathlib.Omega.{arith}
 use native.Mathlib.Nat.{le-trans}
 use Rattle.records.specs.Refusal.{refusal}
-use Rattle.refusal.proofs.Limits.{long-enough, names-fit, nodes-fit, length-said, file-declarators-fit}
+use Rattle.refusal.proofs.Limits.{names-fit, nodes-fit, length-said, file-declarators-fit}
+use borrow.Author.Needs.{needs}
 use borrow.Author.Needs.{needs}
 use Rattle.refusal.proofs.check.check.Statement.{statement}
 use Rattle.refusal.proofs.check.check.Tie as tie
 
-not-a-script-requires : tie.Need-not-a-script-requires
-not-a-script-requires c κs = search needs
+facts-are-bad-requires : tie.Need-facts-are-bad-requires
+facts-are-bad-requires c κs = (((c .before .before .before .before .before) .pre .0) .is, length-said ((c .before .before .before .before .before) .args .file .now) ((c .before .before .before .before .before) .args .h) (((c .before .before .before .before .before) .pre .0) .measured))
 
 returns : tie.Need-returns
 unfolding refusal
-returns c = rw (← (c .before .not-a-script) .ensures, (c .if1) .taken)
+returns c = rw (((c .before .before .before .before .before .before .before) .pre .0) .script, ← ((c .before .before .before .before .before .before .before) .pre .0) .is, ((c .before .before .before .before .before .before .before) .pre .0) .version, ((c .before .before .before .before .before .before .before) .pre .0) .limits, ((c .before .before .before .before .before .before .before) .pre .0) .measured, ← (c .before .facts-are-bad) .ensures, (c .if1) .taken)
 
-header-of-requires : tie.Need-header-of-requires
-header-of-requires c κs = long-enough ((c .before .before .before .before .before .before .before) .args .file .now) (sym ((c .before .not-a-script) .ensures) ∙ (c .if1) .left)
-
-other-version-requires : tie.Need-other-version-requires
-other-version-requires c κs = search needs
-
-outside-limits-requires : tie.Need-outside-limits-requires
-outside-limits-requires c κs = search needs
+script-totals-requires : tie.Need-script-totals-requires
+script-totals-requires c κs = (((c .before .before .before .before .before .before .before) .pre .0) .is, length-said ((c .before .before .before .before .before .before .before) .args .file .now) ((c .before .before .before .before .before .before .before) .args .h) (((c .before .before .before .before .before .before .before) .pre .0) .measured))
 
 returns-2 : tie.Need-returns-2
 unfolding refusal
-returns-2 c = rw (← (c .before .before .before .before .before .not-a-script) .ensures, (c .before .before .before .before .if1) .left, ← (c .before .before .before .header-of) .ensures, ← (c .before .before .other-version) .ensures, (c .if2) .taken)
+returns-2 c = rw (((c .before .before .before .before .before .before .before .before .before) .pre .0) .script, ← ((c .before .before .before .before .before .before .before .before .before) .pre .0) .is, ((c .before .before .before .before .before .before .before .before .before) .pre .0) .version, ((c .before .before .before .before .before .before .before .before .before) .pre .0) .limits, ((c .before .before .before .before .before .before .before .before .before) .pre .0) .measured, ← (c .before .before .before .facts-are-bad) .ensures, (c .before .before .if1) .left, ← ((c .before .script-totals) .ensures) .0, (c .if2) .taken)
+
+nodes-are-bad-requires : tie.Need-nodes-are-bad-requires
+nodes-are-bad-requires c κs = (((c .before .before .before .before .before .before .before .before .before) .pre .0) .is, length-said ((c .before .before .before .before .before .before .before .before .before) .args .file .now) ((c .before .before .before .before .before .before .before .before .before) .args .h) (((c .before .before .before .before .before .before .before .before .before) .pre .0) .measured))
 
 returns-3 : tie.Need-returns-3
 unfolding refusal
-returns-3 c = rw (← (c .before .before .before .before .before .before .not-a-script) .ensures, (c .before .before .before .before .before .if1) .left, ← (c .before .before .before .before .header-of) .ensures, ← (c .before .before .before .other-version) .ensures, (c .before .if2) .left, ← (c .before .before .outside-limits) .ensures, (c .if3) .taken)
-
-other-length-requires : tie.Need-other-length-requires
-other-length-requires c κs = search needs
-
-returns-4 : tie.Need-returns-4
-unfolding refusal
-returns-4 c = rw (← (c .before .before .before .before .before .before .before .before .not-a-script) .ensures, (c .before .before .before .before .before .before .before .if1) .left, ← (c .before .before .before .before .before .before .header-of) .ensures, ← (c .before .before .before .before .before .other-version) .ensures, (c .before .before .before .if2) .left, ← (c .before .before .before .before .outside-limits) .ensures, (c .before .before .if3) .left, ← (c .before .other-length) .ensures, (c .if4) .taken)
-
-facts-are-bad-requires : tie.Need-facts-are-bad-requires
-facts-are-bad-requires c κs = ((c .before .before .before .before .before .before .header-of) .ensures, length-said ((c .before .before .before .before .before .before .before .before .before .before .before .before .before .before) .args .file .now) ((c .before .before .before .before .before .before .header-of) .result) (sym ((c .before .other-length) .ensures) ∙ (c .if4) .left))
-
-returns-5 : tie.Need-returns-5
-unfolding refusal
-returns-5 c = rw (← (c .before .before .before .before .before .before .before .before .before .before .not-a-script) .ensures, (c .before .before .before .before .before .before .before .before .before .if1) .left, ← (c .before .before .before .before .before .before .before .before .header-of) .ensures, ← (c .before .before .before .before .before .before .before .other-version) .ensures, (c .before .before .before .before .before .if2) .left, ← (c .before .before .before .before .before .before .outside-limits) .ensures, (c .before .before .before .before .if3) .left, ← (c .before .before .before .other-length) .ensures, (c .before .before .if4) .left, ← (c .before .facts-are-bad) .ensures, (c .if5) .taken)
-
-script-totals-requires : tie.Need-script-totals-requires
-script-totals-requires c κs = ((c .before .before .before .before .before .before .before .before .header-of) .ensures, length-said ((c .before .before .before .before .before .before .before .before .before .before .before .before .before .before .before .before) .args .file .now) ((c .before .before .before .before .before .before .before .before .header-of) .result) (sym ((c .before .before .before .other-length) .ensures) ∙ (c .before .before .if4) .left))
-
-returns-6 : tie.Need-returns-6
-unfolding refusal
-returns-6 c = rw (← (c .before .before .before .before .before .before .before .before .before .before .before .before .not-a-script) .ensures, (c .before .before .before .before .before .before .before .before .before .before .before .if1) .left, ← (c .before .before .before .before .before .before .before .before .before .before .header-of) .ensures, ← (c .before .before .before .before .before .before .before .before .before .other-version) .ensures, (c .before .before .before .before .before .before .before .if2) .left, ← (c .before .before .before .before .before .before .before .before .outside-limits) .ensures, (c .before .before .before .before .before .before .if3) .left, ← (c .before .before .before .before .before .other-length) .ensures, (c .before .before .before .before .if4) .left, ← (c .before .before .before .facts-are-bad) .ensures, (c .before .before .if5) .left, ← ((c .before .script-totals) .ensures) .0, (c .if6) .taken)
-
-nodes-are-bad-requires : tie.Need-nodes-are-bad-requires
-nodes-are-bad-requires c κs = ((c .before .before .before .before .before .before .before .before .before .before .header-of) .ensures, length-said ((c .before .before .before .before .before .before .before .before .before .before .before .before .before .before .before .before .before .before) .args .file .now) ((c .before .before .before .before .before .before .before .before .before .before .header-of) .result) (sym ((c .before .before .before .before .before .other-length) .ensures) ∙ (c .before .before .before .before .if4) .left))
-
-returns-7 : tie.Need-returns-7
-unfolding refusal
-returns-7 c = rw (← (c .before .before .before .before .before .before .before .before .before .before .before .before .before .before .not-a-script) .ensures, (c .before .before .before .before .before .before .before .before .before .before .before .before .before .if1) .left, ← (c .before .before .before .before .before .before .before .before .before .before .before .before .header-of) .ensures, ← (c .before .before .before .before .before .before .before .before .before .before .before .other-version) .ensures, (c .before .before .before .before .before .before .before .before .before .if2) .left, ← (c .before .before .before .before .before .before .before .before .before .before .outside-limits) .ensures, (c .before .before .before .before .before .before .before .before .if3) .left, ← (c .before .before .before .before .before .before .before .other-length) .ensures, (c .before .before .before .before .before .before .if4) .left, ← (c .before .before .before .before .before .facts-are-bad) .ensures, (c .before .before .before .before .if5) .left, ← ((c .before .before .before .script-totals) .ensures) .0, (c .before .before .if6) .left, ← (c .before .nodes-are-bad) .ensures, (c .if7) .taken)
+returns-3 c = rw (((c .before .before .before .before .before .before .before .before .before .before .before) .pre .0) .script, ← ((c .before .before .before .before .before .before .before .before .before .before .before) .pre .0) .is, ((c .before .before .before .before .before .before .before .before .before .before .before) .pre .0) .version, ((c .before .before .before .before .before .before .before .before .before .before .before) .pre .0) .limits, ((c .before .before .before .before .before .before .before .before .before .before .before) .pre .0) .measured, ← (c .before .before .before .before .before .facts-are-bad) .ensures, (c .before .before .before .before .if1) .left, ← ((c .before .before .before .script-totals) .ensures) .0, (c .before .before .if2) .left, ← (c .before .nodes-are-bad) .ensures, (c .if3) .taken)
 
 trees-are-bad-requires : tie.Need-trees-are-bad-requires
-trees-are-bad-requires c κs = ((c .before .before .before .before .before .before .before .before .before .before .before .before .before .header-of) .ensures, (length-said ((c .before .before .before .before .before .before .before .before .before .before .before .before .before .before .before .before .before .before .before .before .before) .args .file .now) ((c .before .before .before .before .before .before .before .before .before .before .before .before .before .header-of) .result) (sym ((c .before .before .before .before .before .before .before .before .other-length) .ensures) ∙ (c .before .before .before .before .before .before .before .if4) .left), (((c .before .before .before .before .script-totals) .ensures) .1, omega (arith, nodes-fit ((c .before .before .before .before .before .before .before .before .before .before .before .before .before .header-of) .result) (sym ((c .before .before .before .before .before .before .before .before .before .before .before .outside-limits) .ensures) ∙ (c .before .before .before .before .before .before .before .before .before .if3) .left)))))
+trees-are-bad-requires c κs = (((c .before .before .before .before .before .before .before .before .before .before .before .before) .pre .0) .is, (length-said ((c .before .before .before .before .before .before .before .before .before .before .before .before) .args .file .now) ((c .before .before .before .before .before .before .before .before .before .before .before .before) .args .h) (((c .before .before .before .before .before .before .before .before .before .before .before .before) .pre .0) .measured), (((c .before .before .before .before .script-totals) .ensures) .1, omega (arith, nodes-fit ((c .before .before .before .before .before .before .before .before .before .before .before .before) .args .h) (((c .before .before .before .before .before .before .before .before .before .before .before .before) .pre .0) .limits)))))
 
 same-length : tie.Need-same-length
 same-length c = search needs
 
-returns-8 : tie.Need-returns-8
+returns-4 : tie.Need-returns-4
 unfolding refusal
-returns-8 c = rw (← (c .before .before .before .before .before .before .before .before .before .before .before .before .before .before .before .before .before .before .before .not-a-script) .ensures, (c .before .before .before .before .before .before .before .before .before .before .before .before .before .before .before .before .before .before .if1) .left, ← (c .before .before .before .before .before .before .before .before .before .before .before .before .before .before .before .before .before .header-of) .ensures, ← (c .before .before .before .before .before .before .before .before .before .before .before .before .before .before .before .before .other-version) .ensures, (c .before .before .before .before .before .before .before .before .before .before .before .before .before .before .if2) .left, ← (c .before .before .before .before .before .before .before .before .before .before .before .before .before .before .before .outside-limits) .ensures, (c .before .before .before .before .before .before .before .before .before .before .before .before .before .if3) .left, ← (c .before .before .before .before .before .before .before .before .before .before .before .before .other-length) .ensures, (c .before .before .before .before .before .before .before .before .before .before .before .if4) .left, ← (c .before .before .before .before .before .before .before .before .before .before .facts-are-bad) .ensures, (c .before .before .before .before .before .before .before .before .before .if5) .left, ← ((c .before .before .before .before .before .before .before .before .script-totals) .ensures) .0, (c .before .before .before .before .before .before .before .if6) .left, ← (c .before .before .before .before .before .before .nodes-are-bad) .ensures, (c .before .before .before .before .before .if7) .left, ← (c .before .before .before .trees-are-bad) .ensures, (c .if8) .taken)
+returns-4 c = rw (((c .before .before .before .before .before .before .before .before .before .before .before .before .before .before .before .before) .pre .0) .script, ← ((c .before .before .before .before .before .before .before .before .before .before .before .before .before .before .before .before) .pre .0) .is, ((c .before .before .before .before .before .before .before .before .before .before .before .before .before .before .before .before) .pre .0) .version, ((c .before .before .before .before .before .before .before .before .before .before .before .before .before .before .before .before) .pre .0) .limits, ((c .before .before .before .before .before .before .before .before .before .before .before .before .before .before .before .before) .pre .0) .measured, ← (c .before .before .before .before .before .before .before .before .before .before .facts-are-bad) .ensures, (c .before .before .before .before .before .before .before .before .before .if1) .left, ← ((c .before .before .before .before .before .before .before .before .script-totals) .ensures) .0, (c .before .before .before .before .before .before .before .if2) .left, ← (c .before .before .before .before .before .before .nodes-are-bad) .ensures, (c .before .before .before .before .before .if3) .left, ← (c .before .before .before .trees-are-bad) .ensures, (c .if4) .taken)
 
 names-are-declared-twice-requires : tie.Need-names-are-declared-twice-requires
-names-are-declared-twice-requires c κs = ((c .before .before .before .before .before .before .before .before .before .before .before .before .before .before .before .before .before .before .header-of) .ensures, (length-said ((c .before .before .before .before .before .before .before .before .before .before .before .before .before .before .before .before .before .before .before .before .before .before .before .before .before .before) .args .file .now) ((c .before .before .before .before .before .before .before .before .before .before .before .before .before .before .before .before .before .before .header-of) .result) (sym ((c .before .before .before .before .before .before .before .before .before .before .before .before .before .other-length) .ensures) ∙ (c .before .before .before .before .before .before .before .before .before .before .before .before .if4) .left), (file-declarators-fit ((c .before .before .before .before .before .before .before .before .before .before .before .before .before .before .before .before .before .before .before .before .before .before .before .before .before .before) .args .file .now) ((c .before .before .before .before .before .before .before .before .before .before .before .before .before .before .before .before .before .before .header-of) .result) ((c .before .before .before .before .before .before .before .before .before .before .before .before .before .before .before .before .before .before .header-of) .ensures) (sym ((c .before .before .before .before .before .before .before .before .before .before .before .before .before .before .before .before .outside-limits) .ensures) ∙ (c .before .before .before .before .before .before .before .before .before .before .before .before .before .before .if3) .left) (sym (((c .before .before .before .before .before .before .before .before .before .script-totals) .ensures) .0) ∙ (c .before .before .before .before .before .before .before .before .if6) .left), (((c .before .before .before .before .before .before .before .before .before .before .before .before .before .before .before .before .before .before .before .before .before .before .before .before .before .before) .pre) .1 .1 .1 .0, (((c .before .before .before .before .before .before .before .before .before .before .before .before .before .before .before .before .before .before .before .before .before .before .before .before .before .before) .pre) .1 .1 .1 .1 .0, ((c .before .before .before .before .before .before .before .before .before .before .before .before .before .before .before .before .before .before .before .before .before .before .before .before .before .before) .pre) .1 .1 .1 .1 .1 .1 .1)))))
+names-are-declared-twice-requires c κs = (((c .before .before .before .before .before .before .before .before .before .before .before .before .before .before .before .before .before) .pre .0) .is, (length-said ((c .before .before .before .before .before .before .before .before .before .before .before .before .before .before .before .before .before) .args .file .now) ((c .before .before .before .before .before .before .before .before .before .before .before .before .before .before .before .before .before) .args .h) (((c .before .before .before .before .before .before .before .before .before .before .before .before .before .before .before .before .before) .pre .0) .measured), (file-declarators-fit ((c .before .before .before .before .before .before .before .before .before .before .before .before .before .before .before .before .before) .args .file .now) ((c .before .before .before .before .before .before .before .before .before .before .before .before .before .before .before .before .before) .args .h) (((c .before .before .before .before .before .before .before .before .before .before .before .before .before .before .before .before .before) .pre .0) .is) (((c .before .before .before .before .before .before .before .before .before .before .before .before .before .before .before .before .before) .pre .0) .limits) (sym (((c .before .before .before .before .before .before .before .before .before .script-totals) .ensures) .0) ∙ (c .before .before .before .before .before .before .before .before .if2) .left), ((c .before .before .before .before .before .before .before .before .before .before .before .before .before .before .before .before .before) .pre .1 .1 .1 .1 .0, ((c .before .before .before .before .before .before .before .before .before .before .before .before .before .before .before .before .before) .pre .1 .1 .1 .1 .1 .0, (c .before .before .before .before .before .before .before .before .before .before .before .before .before .before .before .before .before) .pre .1 .1 .1 .1 .1 .1 .1 .1)))))
 
 same-length-2 : tie.Need-same-length-2
 same-length-2 c = search needs
@@ -79,12 +49,12 @@ same-length-2 c = search needs
 same-length-3 : tie.Need-same-length-3
 same-length-3 c = search needs
 
-returns-9 : tie.Need-returns-9
+returns-5 : tie.Need-returns-5
 unfolding refusal
-returns-9 c = rw (← (c .before .before .before .before .before .before .before .before .before .before .before .before .before .before .before .before .before .before .before .before .before .before .before .before .not-a-script) .ensures, (c .before .before .before .before .before .before .before .before .before .before .before .before .before .before .before .before .before .before .before .before .before .before .before .if1) .left, ← (c .before .before .before .before .before .before .before .before .before .before .before .before .before .before .before .before .before .before .before .before .before .before .header-of) .ensures, ← (c .before .before .before .before .before .before .before .before .before .before .before .before .before .before .before .before .before .before .before .before .before .other-version) .ensures, (c .before .before .before .before .before .before .before .before .before .before .before .before .before .before .before .before .before .before .before .if2) .left, ← (c .before .before .before .before .before .before .before .before .before .before .before .before .before .before .before .before .before .before .before .before .outside-limits) .ensures, (c .before .before .before .before .before .before .before .before .before .before .before .before .before .before .before .before .before .before .if3) .left, ← (c .before .before .before .before .before .before .before .before .before .before .before .before .before .before .before .before .before .other-length) .ensures, (c .before .before .before .before .before .before .before .before .before .before .before .before .before .before .before .before .if4) .left, ← (c .before .before .before .before .before .before .before .before .before .before .before .before .before .before .before .facts-are-bad) .ensures, (c .before .before .before .before .before .before .before .before .before .before .before .before .before .before .if5) .left, ← ((c .before .before .before .before .before .before .before .before .before .before .before .before .before .script-totals) .ensures) .0, (c .before .before .before .before .before .before .before .before .before .before .before .before .if6) .left, ← (c .before .before .before .before .before .before .before .before .before .before .before .nodes-are-bad) .ensures, (c .before .before .before .before .before .before .before .before .before .before .if7) .left, ← (c .before .before .before .before .before .before .before .before .trees-are-bad) .ensures, (c .before .before .before .before .before .if8) .left, ← (c .before .before .before .names-are-declared-twice) .ensures, (c .if9) .taken)
+returns-5 c = rw (((c .before .before .before .before .before .before .before .before .before .before .before .before .before .before .before .before .before .before .before .before .before) .pre .0) .script, ← ((c .before .before .before .before .before .before .before .before .before .before .before .before .before .before .before .before .before .before .before .before .before) .pre .0) .is, ((c .before .before .before .before .before .before .before .before .before .before .before .before .before .before .before .before .before .before .before .before .before) .pre .0) .version, ((c .before .before .before .before .before .before .before .before .before .before .before .before .before .before .before .before .before .before .before .before .before) .pre .0) .limits, ((c .before .before .before .before .before .before .before .before .before .before .before .before .before .before .before .before .before .before .before .before .before) .pre .0) .measured, ← (c .before .before .before .before .before .before .before .before .before .before .before .before .before .before .before .facts-are-bad) .ensures, (c .before .before .before .before .before .before .before .before .before .before .before .before .before .before .if1) .left, ← ((c .before .before .before .before .before .before .before .before .before .before .before .before .before .script-totals) .ensures) .0, (c .before .before .before .before .before .before .before .before .before .before .before .before .if2) .left, ← (c .before .before .before .before .before .before .before .before .before .before .before .nodes-are-bad) .ensures, (c .before .before .before .before .before .before .before .before .before .before .if3) .left, ← (c .before .before .before .before .before .before .before .before .trees-are-bad) .ensures, (c .before .before .before .before .before .if4) .left, ← (c .before .before .before .names-are-declared-twice) .ensures, (c .if5) .taken)
 
 counts-are-bad-requires : tie.Need-counts-are-bad-requires
-counts-are-bad-requires c κs = ((c .before .before .before .before .before .before .before .before .before .before .before .before .before .before .before .before .before .before .before .before .before .before .before .before .header-of) .ensures, (length-said ((c .before .before .before .before .before .before .before .before .before .before .before .before .before .before .before .before .before .before .before .before .before .before .before .before .before .before .before .before .before .before .before .before) .args .file .now) ((c .before .before .before .before .before .before .before .before .before .before .before .before .before .before .before .before .before .before .before .before .before .before .before .before .header-of) .result) (sym ((c .before .before .before .before .before .before .before .before .before .before .before .before .before .before .before .before .before .before .before .other-length) .ensures) ∙ (c .before .before .before .before .before .before .before .before .before .before .before .before .before .before .before .before .before .before .if4) .left), (le-trans (names-fit ((c .before .before .before .before .before .before .before .before .before .before .before .before .before .before .before .before .before .before .before .before .before .before .before .before .header-of) .result) (sym ((c .before .before .before .before .before .before .before .before .before .before .before .before .before .before .before .before .before .before .before .before .before .before .outside-limits) .ensures) ∙ (c .before .before .before .before .before .before .before .before .before .before .before .before .before .before .before .before .before .before .before .before .if3) .left)) (((c .before .before .before .before .before .before .before .before .before .before .before .before .before .before .before .before .before .before .before .before .before .before .before .before .before .before .before .before .before .before .before .before) .pre) .1 .0), (le-trans (names-fit ((c .before .before .before .before .before .before .before .before .before .before .before .before .before .before .before .before .before .before .before .before .before .before .before .before .header-of) .result) (sym ((c .before .before .before .before .before .before .before .before .before .before .before .before .before .before .before .before .before .before .before .before .before .before .outside-limits) .ensures) ∙ (c .before .before .before .before .before .before .before .before .before .before .before .before .before .before .before .before .before .before .before .before .if3) .left)) (((c .before .before .before .before .before .before .before .before .before .before .before .before .before .before .before .before .before .before .before .before .before .before .before .before .before .before .before .before .before .before .before .before) .pre) .1 .1 .0), (((c .before .before .before .before .before .before .before .before .before .before .before .before .before .before .before .before .before .before .before .before .before .before .before .before .before .before .before .before .before .before .before .before) .pre) .1 .1 .1 .1 .1 .0, ((c .before .before .before .before .before .before .before .before .before .before .before .before .before .before .before .before .before .before .before .before .before .before .before .before .before .before .before .before .before .before .before .before) .pre) .1 .1 .1 .1 .1 .1 .0)))))
+counts-are-bad-requires c κs = (((c .before .before .before .before .before .before .before .before .before .before .before .before .before .before .before .before .before .before .before .before .before .before .before) .pre .0) .is, (length-said ((c .before .before .before .before .before .before .before .before .before .before .before .before .before .before .before .before .before .before .before .before .before .before .before) .args .file .now) ((c .before .before .before .before .before .before .before .before .before .before .before .before .before .before .before .before .before .before .before .before .before .before .before) .args .h) (((c .before .before .before .before .before .before .before .before .before .before .before .before .before .before .before .before .before .before .before .before .before .before .before) .pre .0) .measured), (le-trans (names-fit ((c .before .before .before .before .before .before .before .before .before .before .before .before .before .before .before .before .before .before .before .before .before .before .before) .args .h) (((c .before .before .before .before .before .before .before .before .before .before .before .before .before .before .before .before .before .before .before .before .before .before .before) .pre .0) .limits)) ((c .before .before .before .before .before .before .before .before .before .before .before .before .before .before .before .before .before .before .before .before .before .before .before) .pre .1 .1 .0), (le-trans (names-fit ((c .before .before .before .before .before .before .before .before .before .before .before .before .before .before .before .before .before .before .before .before .before .before .before) .args .h) (((c .before .before .before .before .before .before .before .before .before .before .before .before .before .before .before .before .before .before .before .before .before .before .before) .pre .0) .limits)) ((c .before .before .before .before .before .before .before .before .before .before .before .before .before .before .before .before .before .before .before .before .before .before .before) .pre .1 .1 .1 .0), ((c .before .before .before .before .before .before .before .before .before .before .before .before .before .before .before .before .before .before .before .before .before .before .before) .pre .1 .1 .1 .1 .1 .1 .0, (c .before .before .before .before .before .before .before .before .before .before .before .before .before .before .before .before .before .before .before .before .before .before .before) .pre .1 .1 .1 .1 .1 .1 .1 .0)))))
 
 same-length-4 : tie.Need-same-length-4
 same-length-4 c = search needs
@@ -98,12 +68,12 @@ same-length-6 c = search needs
 same-length-7 : tie.Need-same-length-7
 same-length-7 c = search needs
 
-returns-10 : tie.Need-returns-10
+returns-6 : tie.Need-returns-6
 unfolding refusal
-returns-10 c = rw (← (c .before .before .before .before .before .before .before .before .before .before .before .before .before .before .before .before .before .before .before .before .before .before .before .before .before .before .before .before .before .before .before .before .not-a-script) .ensures, (c .before .before .before .before .before .before .before .before .before .before .before .before .before .before .before .before .before .before .before .before .before .before .before .before .before .before .before .before .before .before .before .if1) .left, ← (c .before .before .before .before .before .before .before .before .before .before .before .before .before .before .before .before .before .before .before .before .before .before .before .before .before .before .before .before .before .before .header-of) .ensures, ← (c .before .before .before .before .before .before .before .before .before .before .before .before .before .before .before .before .before .before .before .before .before .before .before .before .before .before .before .before .before .other-version) .ensures, (c .before .before .before .before .before .before .before .before .before .before .before .before .before .before .before .before .before .before .before .before .before .before .before .before .before .before .before .if2) .left, ← (c .before .before .before .before .before .before .before .before .before .before .before .before .before .before .before .before .before .before .before .before .before .before .before .before .before .before .before .before .outside-limits) .ensures, (c .before .before .before .before .before .before .before .before .before .before .before .before .before .before .before .before .before .before .before .before .before .before .before .before .before .before .if3) .left, ← (c .before .before .before .before .before .before .before .before .before .before .before .before .before .before .before .before .before .before .before .before .before .before .before .before .before .other-length) .ensures, (c .before .before .before .before .before .before .before .before .before .before .before .before .before .before .before .before .before .before .before .before .before .before .before .before .if4) .left, ← (c .before .before .before .before .before .before .before .before .before .before .before .before .before .before .before .before .before .before .before .before .before .before .before .facts-are-bad) .ensures, (c .before .before .before .before .before .before .before .before .before .before .before .before .before .before .before .before .before .before .before .before .before .before .if5) .left, ← ((c .before .before .before .before .before .before .before .before .before .before .before .before .before .before .before .before .before .before .before .before .before .script-totals) .ensures) .0, (c .before .before .before .before .before .before .before .before .before .before .before .before .before .before .before .before .before .before .before .before .if6) .left, ← (c .before .before .before .before .before .before .before .before .before .before .before .before .before .before .before .before .before .before .before .nodes-are-bad) .ensures, (c .before .before .before .before .before .before .before .before .before .before .before .before .before .before .before .before .before .before .if7) .left, ← (c .before .before .before .before .before .before .before .before .before .before .before .before .before .before .before .before .trees-are-bad) .ensures, (c .before .before .before .before .before .before .before .before .before .before .before .before .before .if8) .left, ← (c .before .before .before .before .before .before .before .before .before .before .before .names-are-declared-twice) .ensures, (c .before .before .before .before .before .before .before .before .if9) .left, ← (c .before .before .before .before .before .counts-are-bad) .ensures, (c .if10) .taken)
+returns-6 c = rw (((c .before .before .before .before .before .before .before .before .before .before .before .before .before .before .before .before .before .before .before .before .before .before .before .before .before .before .before .before .before) .pre .0) .script, ← ((c .before .before .before .before .before .before .before .before .before .before .before .before .before .before .before .before .before .before .before .before .before .before .before .before .before .before .before .before .before) .pre .0) .is, ((c .before .before .before .before .before .before .before .before .before .before .before .before .before .before .before .before .before .before .before .before .before .before .before .before .before .before .before .before .before) .pre .0) .version, ((c .before .before .before .before .before .before .before .before .before .before .before .before .before .before .before .before .before .before .before .before .before .before .before .before .before .before .before .before .before) .pre .0) .limits, ((c .before .before .before .before .before .before .before .before .before .before .before .before .before .before .before .before .before .before .before .before .before .before .before .before .before .before .before .before .before) .pre .0) .measured, ← (c .before .before .before .before .before .before .before .before .before .before .before .before .before .before .before .before .before .before .before .before .before .before .before .facts-are-bad) .ensures, (c .before .before .before .before .before .before .before .before .before .before .before .before .before .before .before .before .before .before .before .before .before .before .if1) .left, ← ((c .before .before .before .before .before .before .before .before .before .before .before .before .before .before .before .before .before .before .before .before .before .script-totals) .ensures) .0, (c .before .before .before .before .before .before .before .before .before .before .before .before .before .before .before .before .before .before .before .before .if2) .left, ← (c .before .before .before .before .before .before .before .before .before .before .before .before .before .before .before .before .before .before .before .nodes-are-bad) .ensures, (c .before .before .before .before .before .before .before .before .before .before .before .before .before .before .before .before .before .before .if3) .left, ← (c .before .before .before .before .before .before .before .before .before .before .before .before .before .before .before .before .trees-are-bad) .ensures, (c .before .before .before .before .before .before .before .before .before .before .before .before .before .if4) .left, ← (c .before .before .before .before .before .before .before .before .before .before .before .names-are-declared-twice) .ensures, (c .before .before .before .before .before .before .before .before .if5) .left, ← (c .before .before .before .before .before .counts-are-bad) .ensures, (c .if6) .taken)
 
 room-is-short-requires : tie.Need-room-is-short-requires
-room-is-short-requires c κs = ((c .before .before .before .before .before .before .before .before .before .before .before .before .before .before .before .before .before .before .before .before .before .before .before .before .before .before .before .before .before .before .header-of) .ensures, length-said ((c .before .before .before .before .before .before .before .before .before .before .before .before .before .before .before .before .before .before .before .before .before .before .before .before .before .before .before .before .before .before .before .before .before .before .before .before .before .before) .args .file .now) ((c .before .before .before .before .before .before .before .before .before .before .before .before .before .before .before .before .before .before .before .before .before .before .before .before .before .before .before .before .before .before .header-of) .result) (sym ((c .before .before .before .before .before .before .before .before .before .before .before .before .before .before .before .before .before .before .before .before .before .before .before .before .before .other-length) .ensures) ∙ (c .before .before .before .before .before .before .before .before .before .before .before .before .before .before .before .before .before .before .before .before .before .before .before .before .if4) .left))
+room-is-short-requires c κs = (((c .before .before .before .before .before .before .before .before .before .before .before .before .before .before .before .before .before .before .before .before .before .before .before .before .before .before .before .before .before) .pre .0) .is, length-said ((c .before .before .before .before .before .before .before .before .before .before .before .before .before .before .before .before .before .before .before .before .before .before .before .before .before .before .before .before .before) .args .file .now) ((c .before .before .before .before .before .before .before .before .before .before .before .before .before .before .before .before .before .before .before .before .before .before .before .before .before .before .before .before .before) .args .h) (((c .before .before .before .before .before .before .before .before .before .before .before .before .before .before .before .before .before .before .before .before .before .before .before .before .before .before .before .before .before) .pre .0) .measured))
 
 same-length-8 : tie.Need-same-length-8
 same-length-8 c = search needs
@@ -117,9 +87,9 @@ same-length-10 c = search needs
 same-length-11 : tie.Need-same-length-11
 same-length-11 c = search needs
 
-returns-11 : tie.Need-returns-11
+returns-7 : tie.Need-returns-7
 unfolding refusal
-returns-11 c = rw (← (c .before .before .before .before .before .before .before .before .before .before .before .before .before .before .before .before .before .before .before .before .before .before .before .before .before .before .before .before .before .before .before .before .before .before .not-a-script) .ensures, (c .before .before .before .before .before .before .before .before .before .before .before .before .before .before .before .before .before .before .before .before .before .before .before .before .before .before .before .before .before .before .before .before .before .if1) .left, ← (c .before .before .before .before .before .before .before .before .before .before .before .before .before .before .before .before .before .before .before .before .before .before .before .before .before .before .before .before .before .before .before .before .header-of) .ensures, ← (c .before .before .before .before .before .before .before .before .before .before .before .before .before .before .before .before .before .before .before .before .before .before .before .before .before .before .before .before .before .before .before .other-version) .ensures, (c .before .before .before .before .before .before .before .before .before .before .before .before .before .before .before .before .before .before .before .before .before .before .before .before .before .before .before .before .before .if2) .left, ← (c .before .before .before .before .before .before .before .before .before .before .before .before .before .before .before .before .before .before .before .before .before .before .before .before .before .before .before .before .before .before .outside-limits) .ensures, (c .before .before .before .before .before .before .before .before .before .before .before .before .before .before .before .before .before .before .before .before .before .before .before .before .before .before .before .before .if3) .left, ← (c .before .before .before .before .before .before .before .before .before .before .before .before .before .before .before .before .before .before .before .before .before .before .before .before .before .before .before .other-length) .ensures, (c .before .before .before .before .before .before .before .before .before .before .before .before .before .before .before .before .before .before .before .before .before .before .before .before .before .before .if4) .left, ← (c .before .before .before .before .before .before .before .before .before .before .before .before .before .before .before .before .before .before .before .before .before .before .before .before .before .facts-are-bad) .ensures, (c .before .before .before .before .before .before .before .before .before .before .before .before .before .before .before .before .before .before .before .before .before .before .before .before .if5) .left, ← ((c .before .before .before .before .before .before .before .before .before .before .before .before .before .before .before .before .before .before .before .before .before .before .before .script-totals) .ensures) .0, (c .before .before .before .before .before .before .before .before .before .before .before .before .before .before .before .before .before .before .before .before .before .before .if6) .left, ← (c .before .before .before .before .before .before .before .before .before .before .before .before .before .before .before .before .before .before .before .before .before .nodes-are-bad) .ensures, (c .before .before .before .before .before .before .before .before .before .before .before .before .before .before .before .before .before .before .before .before .if7) .left, ← (c .before .before .before .before .before .before .before .before .before .before .before .before .before .before .before .before .before .before .trees-are-bad) .ensures, (c .before .before .before .before .before .before .before .before .before .before .before .before .before .before .before .if8) .left, ← (c .before .before .before .before .before .before .before .before .before .before .before .before .before .names-are-declared-twice) .ensures, (c .before .before .before .before .before .before .before .before .before .before .if9) .left, ← (c .before .before .before .before .before .before .before .counts-are-bad) .ensures, (c .before .before .if10) .left, ← (c .before .room-is-short) .ensures, (c .if11) .taken)
+returns-7 c = rw (((c .before .before .before .before .before .before .before .before .before .before .before .before .before .before .before .before .before .before .before .before .before .before .before .before .before .before .before .before .before .before .before) .pre .0) .script, ← ((c .before .before .before .before .before .before .before .before .before .before .before .before .before .before .before .before .before .before .before .before .before .before .before .before .before .before .before .before .before .before .before) .pre .0) .is, ((c .before .before .before .before .before .before .before .before .before .before .before .before .before .before .before .before .before .before .before .before .before .before .before .before .before .before .before .before .before .before .before) .pre .0) .version, ((c .before .before .before .before .before .before .before .before .before .before .before .before .before .before .before .before .before .before .before .before .before .before .before .before .before .before .before .before .before .before .before) .pre .0) .limits, ((c .before .before .before .before .before .before .before .before .before .before .before .before .before .before .before .before .before .before .before .before .before .before .before .before .before .before .before .before .before .before .before) .pre .0) .measured, ← (c .before .before .before .before .before .before .before .before .before .before .before .before .before .before .before .before .before .before .before .before .before .before .before .before .before .facts-are-bad) .ensures, (c .before .before .before .before .before .before .before .before .before .before .before .before .before .before .before .before .before .before .before .before .before .before .before .before .if1) .left, ← ((c .before .before .before .before .before .before .before .before .before .before .before .before .before .before .before .before .before .before .before .before .before .before .before .script-totals) .ensures) .0, (c .before .before .before .before .before .before .before .before .before .before .before .before .before .before .before .before .before .before .before .before .before .before .if2) .left, ← (c .before .before .before .before .before .before .before .before .before .before .before .before .before .before .before .before .before .before .before .before .before .nodes-are-bad) .ensures, (c .before .before .before .before .before .before .before .before .before .before .before .before .before .before .before .before .before .before .before .before .if3) .left, ← (c .before .before .before .before .before .before .before .before .before .before .before .before .before .before .before .before .before .before .trees-are-bad) .ensures, (c .before .before .before .before .before .before .before .before .before .before .before .before .before .before .before .if4) .left, ← (c .before .before .before .before .before .before .before .before .before .before .before .before .before .names-are-declared-twice) .ensures, (c .before .before .before .before .before .before .before .before .before .before .if5) .left, ← (c .before .before .before .before .before .before .before .counts-are-bad) .ensures, (c .before .before .if6) .left, ← (c .before .room-is-short) .ensures, (c .if7) .taken)
 
 same-length-12 : tie.Need-same-length-12
 same-length-12 c = search needs
@@ -133,50 +103,41 @@ same-length-14 c = search needs
 same-length-15 : tie.Need-same-length-15
 same-length-15 c = search needs
 
-returns-12 : tie.Need-returns-12
+returns-8 : tie.Need-returns-8
 unfolding refusal
-returns-12 c = rw (← (c .before .before .before .before .before .before .before .before .before .before .before .before .before .before .before .before .before .before .before .before .before .before .before .before .before .before .before .before .before .before .before .before .before .before .not-a-script) .ensures, (c .before .before .before .before .before .before .before .before .before .before .before .before .before .before .before .before .before .before .before .before .before .before .before .before .before .before .before .before .before .before .before .before .before .if1) .left, ← (c .before .before .before .before .before .before .before .before .before .before .before .before .before .before .before .before .before .before .before .before .before .before .before .before .before .before .before .before .before .before .before .before .header-of) .ensures, ← (c .before .before .before .before .before .before .before .before .before .before .before .before .before .before .before .before .before .before .before .before .before .before .before .before .before .before .before .before .before .before .before .other-version) .ensures, (c .before .before .before .before .before .before .before .before .before .before .before .before .before .before .before .before .before .before .before .before .before .before .before .before .before .before .before .before .before .if2) .left, ← (c .before .before .before .before .before .before .before .before .before .before .before .before .before .before .before .before .before .before .before .before .before .before .before .before .before .before .before .before .before .before .outside-limits) .ensures, (c .before .before .before .before .before .before .before .before .before .before .before .before .before .before .before .before .before .before .before .before .before .before .before .before .before .before .before .before .if3) .left, ← (c .before .before .before .before .before .before .before .before .before .before .before .before .before .before .before .before .before .before .before .before .before .before .before .before .before .before .before .other-length) .ensures, (c .before .before .before .before .before .before .before .before .before .before .before .before .before .before .before .before .before .before .before .before .before .before .before .before .before .before .if4) .left, ← (c .before .before .before .before .before .before .before .before .before .before .before .before .before .before .before .before .before .before .before .before .before .before .before .before .before .facts-are-bad) .ensures, (c .before .before .before .before .before .before .before .before .before .before .before .before .before .before .before .before .before .before .before .before .before .before .before .before .if5) .left, ← ((c .before .before .before .before .before .before .before .before .before .before .before .before .before .before .before .before .before .before .before .before .before .before .before .script-totals) .ensures) .0, (c .before .before .before .before .before .before .before .before .before .before .before .before .before .before .before .before .before .before .before .before .before .before .if6) .left, ← (c .before .before .before .before .before .before .before .before .before .before .before .before .before .before .before .before .before .before .before .before .before .nodes-are-bad) .ensures, (c .before .before .before .before .before .before .before .before .before .before .before .before .before .before .before .before .before .before .before .before .if7) .left, ← (c .before .before .before .before .before .before .before .before .before .before .before .before .before .before .before .before .before .before .trees-are-bad) .ensures, (c .before .before .before .before .before .before .before .before .before .before .before .before .before .before .before .if8) .left, ← (c .before .before .before .before .before .before .before .before .before .before .before .before .before .names-are-declared-twice) .ensures, (c .before .before .before .before .before .before .before .before .before .before .if9) .left, ← (c .before .before .before .before .before .before .before .counts-are-bad) .ensures, (c .before .before .if10) .left, ← (c .before .room-is-short) .ensures, (c .if11) .left)
+returns-8 c = rw (((c .before .before .before .before .before .before .before .before .before .before .before .before .before .before .before .before .before .before .before .before .before .before .before .before .before .before .before .before .before .before .before) .pre .0) .script, ← ((c .before .before .before .before .before .before .before .before .before .before .before .before .before .before .before .before .before .before .before .before .before .before .before .before .before .before .before .before .before .before .before) .pre .0) .is, ((c .before .before .before .before .before .before .before .before .before .before .before .before .before .before .before .before .before .before .before .before .before .before .before .before .before .before .before .before .before .before .before) .pre .0) .version, ((c .before .before .before .before .before .before .before .before .before .before .before .before .before .before .before .before .before .before .before .before .before .before .before .before .before .before .before .before .before .before .before) .pre .0) .limits, ((c .before .before .before .before .before .before .before .before .before .before .before .before .before .before .before .before .before .before .before .before .before .before .before .before .before .before .before .before .before .before .before) .pre .0) .measured, ← (c .before .before .before .before .before .before .before .before .before .before .before .before .before .before .before .before .before .before .before .before .before .before .before .before .before .facts-are-bad) .ensures, (c .before .before .before .before .before .before .before .before .before .before .before .before .before .before .before .before .before .before .before .before .before .before .before .before .if1) .left, ← ((c .before .before .before .before .before .before .before .before .before .before .before .before .before .before .before .before .before .before .before .before .before .before .before .script-totals) .ensures) .0, (c .before .before .before .before .before .before .before .before .before .before .before .before .before .before .before .before .before .before .before .before .before .before .if2) .left, ← (c .before .before .before .before .before .before .before .before .before .before .before .before .before .before .before .before .before .before .before .before .before .nodes-are-bad) .ensures, (c .before .before .before .before .before .before .before .before .before .before .before .before .before .before .before .before .before .before .before .before .if3) .left, ← (c .before .before .before .before .before .before .before .before .before .before .before .before .before .before .before .before .before .before .trees-are-bad) .ensures, (c .before .before .before .before .before .before .before .before .before .before .before .before .before .before .before .if4) .left, ← (c .before .before .before .before .before .before .before .before .before .before .before .before .before .names-are-declared-twice) .ensures, (c .before .before .before .before .before .before .before .before .before .before .if5) .left, ← (c .before .before .before .before .before .before .before .counts-are-bad) .ensures, (c .before .before .if6) .left, ← (c .before .room-is-short) .ensures, (c .if7) .left)
 
 pub check-spec : {M : Type 1} → statement M
 check-spec =
     tie.close
     (tie.spec
-    not-a-script-requires
-    returns
-    header-of-requires
-    other-version-requires
-    outside-limits-requires
-    returns-2
-    returns-3
-    other-length-requires
-    returns-4
     facts-are-bad-requires
-    returns-5
+    returns
     script-totals-requires
-    returns-6
+    returns-2
     nodes-are-bad-requires
-    returns-7
+    returns-3
     trees-are-bad-requires
     same-length
-    returns-8
+    returns-4
     names-are-declared-twice-requires
     same-length-2
     same-length-3
-    returns-9
+    returns-5
     counts-are-bad-requires
     same-length-4
     same-length-5
     same-length-6
     same-length-7
-    returns-10
+    returns-6
     room-is-short-requires
     same-length-8
     same-length-9
     same-length-10
     same-length-11
-    returns-11
+    returns-7
     same-length-12
     same-length-13
     same-length-14
     same-length-15
-    returns-12)
+    returns-8)

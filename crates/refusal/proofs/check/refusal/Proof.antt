@@ -1,36 +1,61 @@
 -- `refusal::check::refusal` meets its contract. Assumes nothing.
 use mathlib.Core.Path.{_≡_, refl, sym, ap, _∙_}
-use native.Mathlib.Omega.{arith}
-use lib.ListN.{getD-replicate}
+use Rattle.records.specs.Refusal.{refusal}
+use Rattle.refusal.proofs.Limits.{long-enough}
+use borrow.Author.Needs.{needs}
 use borrow.Author.Needs.{needs}
 use Rattle.refusal.proofs.check.refusal.Statement.{statement}
 use Rattle.refusal.proofs.check.refusal.Tie as tie
 
-slice-aggregate-check : tie.Need-slice-aggregate-check
-slice-aggregate-check c = search needs
-
-slice-aggregate-check-2 : tie.Need-slice-aggregate-check-2
-slice-aggregate-check-2 c = search needs
-
-slice-aggregate-check-3 : tie.Need-slice-aggregate-check-3
-slice-aggregate-check-3 c = search needs
-
-slice-aggregate-check-4 : tie.Need-slice-aggregate-check-4
-slice-aggregate-check-4 c = search needs
-
-check-requires : tie.Need-check-requires
-check-requires c κs = (omega arith, (omega arith, (omega arith, (omega arith, (omega arith, (λ k h. getD-replicate 256 k 0 0 h, (λ k h. getD-replicate 256 k 0 0 h, λ k h. getD-replicate 256 k 0 0 h)))))))
+not-a-script-requires : tie.Need-not-a-script-requires
+not-a-script-requires c κs = search needs
 
 returns : tie.Need-returns
-returns c = search needs
+unfolding refusal
+returns c = rw (← (c .before .not-a-script) .ensures, (c .if1) .taken)
+
+header-of-requires : tie.Need-header-of-requires
+header-of-requires c κs = long-enough ((c .before .before .before) .args .file .now) (sym ((c .before .not-a-script) .ensures) ∙ (c .if1) .left)
+
+other-version-requires : tie.Need-other-version-requires
+other-version-requires c κs = search needs
+
+outside-limits-requires : tie.Need-outside-limits-requires
+outside-limits-requires c κs = search needs
+
+returns-2 : tie.Need-returns-2
+unfolding refusal
+returns-2 c = rw (← (c .before .before .before .before .before .not-a-script) .ensures, (c .before .before .before .before .if1) .left, ← (c .before .before .before .header-of) .ensures, ← (c .before .before .other-version) .ensures, (c .if2) .taken)
+
+returns-3 : tie.Need-returns-3
+unfolding refusal
+returns-3 c = rw (← (c .before .before .before .before .before .before .not-a-script) .ensures, (c .before .before .before .before .before .if1) .left, ← (c .before .before .before .before .header-of) .ensures, ← (c .before .before .before .other-version) .ensures, (c .before .if2) .left, ← (c .before .before .outside-limits) .ensures, (c .if3) .taken)
+
+other-length-requires : tie.Need-other-length-requires
+other-length-requires c κs = search needs
+
+returns-4 : tie.Need-returns-4
+unfolding refusal
+returns-4 c = rw (← (c .before .before .before .before .before .before .before .before .not-a-script) .ensures, (c .before .before .before .before .before .before .before .if1) .left, ← (c .before .before .before .before .before .before .header-of) .ensures, ← (c .before .before .before .before .before .other-version) .ensures, (c .before .before .before .if2) .left, ← (c .before .before .before .before .outside-limits) .ensures, (c .before .before .if3) .left, ← (c .before .other-length) .ensures, (c .if4) .taken)
+
+check-records-requires : tie.Need-check-records-requires
+check-records-requires c κs = record { is = (c .before .before .before .before .before .before .header-of) .ensures; script = sym ((c .before .before .before .before .before .before .before .before .not-a-script) .ensures) ∙ (c .before .before .before .before .before .before .before .if1) .left; version = sym ((c .before .before .before .before .before .other-version) .ensures) ∙ (c .before .before .before .if2) .left; limits = sym ((c .before .before .before .before .outside-limits) .ensures) ∙ (c .before .before .if3) .left; measured = sym ((c .before .other-length) .ensures) ∙ (c .if4) .left }
+
+returns-5 : tie.Need-returns-5
+returns-5 c = search needs
 
 pub refusal-spec : {M : Type 1} → statement M
 refusal-spec =
     tie.close
     (tie.spec
-    slice-aggregate-check
-    slice-aggregate-check-2
-    slice-aggregate-check-3
-    slice-aggregate-check-4
-    check-requires
-    returns)
+    not-a-script-requires
+    returns
+    header-of-requires
+    other-version-requires
+    outside-limits-requires
+    returns-2
+    returns-3
+    other-length-requires
+    returns-4
+    check-records-requires
+    returns-5)

@@ -1,12 +1,12 @@
--- `folding::later::fold_later_declarators` meets its contract. Assumes nothing.
+-- `folding::later::substitute_single_use_symbol_within_declaration` meets its contract. Assumes nothing.
 use mathlib.Core.Path.{_≡_, refl}
 use native.Mathlib.Omega.{arith}
 use lib.ListN.{length}
 use Rattle.records.specs.File.{read}
 use Rattle.walk.specs.Context.{contextOf}
 use Rattle.folding.proofs.Going.{SomeGoing, going-begins, can-go, going-on, going-ends}
-use Rattle.folding.proofs.later.fold_later_declarators.Statement.{statement}
-use Rattle.folding.proofs.later.fold_later_declarators.Tie as tie
+use Rattle.folding.proofs.later.substitute_single_use_symbol_within_declaration.Statement.{statement}
+use Rattle.folding.proofs.later.substitute_single_use_symbol_within_declaration.Tie as tie
 
 abbrev Inv-loop : tie.InvT-loop
 Inv-loop file h nodes₀ declarators₀ starts₀ low searched many left₀ q₀ nodes declarators starts left q =
@@ -48,8 +48,8 @@ same-length-3 c = omega arith
 returns : tie.Need-returns Inv-loop μ-loop
 returns c = going-ends (contextOf (read ((c .before .before .before .before .before .before) .args .file .now))) ((c .before .before .before .before .before .before) .args .searched) ((c .before .before .before .before .before .before) .args .file .now) ((c .before .before .before .before .before .before) .args .h) ((c .before .before .before .before .before .before) .args .low) ((c .before .loop) .inv .3) (omega arith)
 
-pub fold-later-declarators-spec : {M : Type 1} → statement M
-fold-later-declarators-spec =
+pub substitute-single-use-symbol-within-declaration-spec : {M : Type 1} → statement M
+substitute-single-use-symbol-within-declaration-spec =
     tie.close
     (tie.spec
     Inv-loop

@@ -1,11 +1,11 @@
--- `folding::statement::fold_expression` meets its contract. Assumes nothing.
+-- `folding::statement::handle_expression_statement` meets its contract. Assumes nothing.
 use native.Mathlib.Omega.{arith}
 use Rattle.records.specs.File.{read}
 use Rattle.walk.specs.Context.{contextOf}
 use Rattle.folding.proofs.Folding.{expression-next, expression-room, expression-folds}
 use borrow.Author.Needs.{needs}
-use Rattle.folding.proofs.statement.fold_expression.Statement.{statement}
-use Rattle.folding.proofs.statement.fold_expression.Tie as tie
+use Rattle.folding.proofs.statement.handle_expression_statement.Statement.{statement}
+use Rattle.folding.proofs.statement.handle_expression_statement.Tie as tie
 
 substitute-in-next-tree-requires : tie.Need-substitute-in-next-tree-requires
 substitute-in-next-tree-requires c κs =
@@ -26,8 +26,8 @@ same-length-2 c = search needs
 returns : tie.Need-returns
 returns c = expression-folds (contextOf (read ((c .before .before .before .before .before .before .before .before .before .before .before .before .before .before .before .before) .args .file .now))) ((c .before .before .before .before .before .before .before .before .before .before .before .before .before .before .before .before) .args .file .now) ((c .before .before .before .before .before .before .before .before .before .before .before .before .before .before .before .before) .args .h) ((c .before .before .before .before .before .before .before .before .before .before .before .before .before .before .before .before) .args .nodes .now) ((c .before .before .before .before .before .before .before .before .before .before .before .before .before .before .before .before) .args .declarators .now) ((c .before .before .before .before .before .before .before .before .before .before .before .before .before .before .before .before) .args .starts .now) ((c .before .before .before .before .before .before .before .before .before .before .before .before .before .before .before .before) .args .statements .now) ((c .before .before .before .before .before .before .before .before .before .before .before .before .before .before .before .before) .args .s) ((c .before .before .before .before .before .before .before .before .before .before .before .before .before .before .before .before) .args .p) ((c .before .before .before .before .before .before .before .before .before .before .before .before .before .before .before .before) .pre .1 .1 .1 .1) _ _ _ ((c .before .before .before .before .before .before .before .before .substitute-in-next-tree) .ensures) _ _ ((c .before .before .push-statement) .ensures .1) ((c .before .before .push-statement) .ensures .0)
 
-pub fold-expression-spec : {M : Type 1} → statement M
-fold-expression-spec =
+pub handle-expression-statement-spec : {M : Type 1} → statement M
+handle-expression-statement-spec =
     tie.close
     (tie.spec
     substitute-in-next-tree-requires
