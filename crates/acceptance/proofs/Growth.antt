@@ -13,14 +13,14 @@ use Rattle.walk.specs.Context.{contextOf}
 use Rattle.statements.specs.Trace.{Fold}
 use Rattle.preservation.proofs.Tests.{one-off}
 use Rattle.preservation.proofs.Uses.{reads, targets}
-use Rattle.preservation.proofs.Counts.{times, turned-reads, turned-targets}
+use Rattle.preservation.proofs.Counts.{turned-reads, turned-targets, no-times, one-time}
 use Rattle.preservation.proofs.Turned.{Turned, replaced-turned, stopped-turned}
 use Rattle.preservation.proofs.Places.{Place, declarator, statement, initializer}
 use Rattle.preservation.proofs.Moves.{FoldAt, StopAt, DropAt, Moves, done, fold, stop, drop}
 use Rattle.preservation.proofs.Totals.{ofInitializer, total, there, trees}
 use Rattle.preservation.proofs.Sums.{fold-before, fold-behind, fold-trees-before, fold-trees-behind, stop-before, stop-behind, stop-trees-before, stop-trees-behind, drop-sum}
 use Rattle.preservation.proofs.Fit.{fit, misfit, fit-parts, fit-turned, misfit-none}
-use Rattle.preservation.proofs.FineKept.{none-placed, no-times}
+use Rattle.preservation.proofs.FineKept.{none-placed}
 
 -- what a program weighs in the names that it declares
 abbrev pub named : (ℕ → ℕ) → List Statement → ℕ
@@ -64,17 +64,13 @@ pub record Light (names : List NameFacts) (w : Tree → ℕ) : Type 0 where
   pub once : (v : ℕ) (r t t′ : Tree) → fit names r ≡ true → fit names t ≡ true → Turned v r 1 t t′ → w t′ ≤ w t + w r
   pub never : (v : ℕ) (t t′ : Tree) → fit names t ≡ true → Turned v t 0 t t′ → w t′ ≤ w t
 
-once-times : (c : ℕ) → times 1 c ≡ c
-unfolding times
-once-times c = omega arith
-
 -- the reads and the targets of a name are such weights
 module _ (names : List NameFacts) (a : ℕ) (known : eqb noNumber a ≡ false) where
   pub reads-light : Light names (reads a)
   reads-light = record {
     once = λ v r t t′ g h turned.
         let x = turned-reads v r (fit-parts names r g .2) a known turned in
-        let y = once-times (reads a r) in
+        let y = one-time (reads a r) in
         omega (arith, x, y);
     never = λ v t t′ h turned.
         let x = turned-reads v t (fit-parts names t h .2) a known turned in
@@ -86,7 +82,7 @@ module _ (names : List NameFacts) (a : ℕ) (known : eqb noNumber a ≡ false) w
   targets-light = record {
     once = λ v r t t′ g h turned.
         let x = turned-targets v r (fit-parts names r g .2) a known turned in
-        let y = once-times (targets a r) in
+        let y = one-time (targets a r) in
         omega (arith, x, y);
     never = λ v t t′ h turned.
         let x = turned-targets v t (fit-parts names t h .2) a known turned in

@@ -10,10 +10,10 @@ use Rattle.records.specs.Tree.{Node, Tree, Trees, node, none, more, count, reco
 use Rattle.records.specs.File.{one}
 use Rattle.records.specs.declared.layout.NameFacts.{NameFacts}
 use Rattle.records.specs.declared.layout.NodeRecord.{NodeRecord}
-use Rattle.records.proofs.Tests.{both, every-parts, every-more}
+use Rattle.records.proofs.Tests.{both, every-parts, every-more, clash}
 use Rattle.walk.specs.Shape.{cleared}
 use Rattle.walk.specs.Substitute.{at, preserveIndirectAccess}
-use Rattle.preservation.proofs.Tests.{clash, one-off, one-not}
+use Rattle.preservation.proofs.Tests.{one-off, one-not}
 use Rattle.preservation.proofs.Totals.{sums}
 use Rattle.preservation.proofs.Turned.{Turned, same, here, apart, under, AllTurned, no-more, both as each}
 use Rattle.acceptance.proofs.Growth.{Light}

@@ -18,9 +18,9 @@ use Rattle.records.specs.declared.layout.NameFacts.{NameFacts}
 use Rattle.records.specs.declared.layout.NodeRecord.{NodeRecord}
 use Rattle.records.specs.declared.layout.DeclaratorRecord.{DeclaratorRecord}
 use Rattle.records.specs.declared.layout.StatementRecord.{StatementRecord}
-use Rattle.records.proofs.Tests.{both, all-three, every-parts}
+use Rattle.records.proofs.Tests.{both, all-three, every-parts, clash}
 use Rattle.roundtrip.proofs.Numbers.{u16-fits}
-use Rattle.preservation.proofs.Tests.{by-or, clash}
+use Rattle.preservation.proofs.Tests.{by-or}
 use Rattle.acceptance.proofs.Narrow.{narrowRecord}
 
 pub data Small : List ℕ → Type 0 where

@@ -15,13 +15,12 @@ use Rattle.records.specs.Node.{goodNode}
 use Rattle.records.specs.Tree.{Tree, Trees, node, none, more, count, recordOf, preorder, preorders}
 use Rattle.records.specs.Place.{placed, allPlaced, rootsStand}
 use Rattle.records.specs.Count.{goodCounts}
-use Rattle.records.specs.File.{one, isGiven, Declarator, declaratorRecords}
+use Rattle.records.specs.File.{one, Initializer, bare, given, isGiven, Declarator, declaratorRecords}
 use Rattle.records.specs.declared.layout.NameFacts.{NameFacts}
 use Rattle.records.specs.declared.layout.NodeRecord.{NodeRecord}
 use Rattle.records.specs.declared.layout.DeclaratorRecord.{DeclaratorRecord}
-use Rattle.records.proofs.Tests.{every-parts, every-more}
-use Rattle.roundtrip.proofs.PrintedTests.{given-known}
-use Rattle.preservation.proofs.Tests.{clash, one-on, one-off, one-not}
+use Rattle.records.proofs.Tests.{every-parts, every-more, clash}
+use Rattle.preservation.proofs.Tests.{one-on, one-off, one-not}
 use Rattle.preservation.proofs.WellMade.{wellMade, allWellMade, well-node, well-more}
 use Rattle.preservation.proofs.Totals.{totalOf, sums}
 use Rattle.preservation.proofs.Fit.{fit, misfit, fit-parts}
@@ -61,6 +60,12 @@ mayDeclare names a = eqb a noNumber || ltb a (length names) && not (unresolved (
 -- 1 for a name that it may not
 abbrev pub misnamed : List NameFacts → ℕ → ℕ
 misnamed names a = one (not (mayDeclare names a))
+
+-- a declarator's mark is 0 or 1
+given-known : (i : Initializer) → leb (isGiven i) 1 ≡ true
+unfolding isGiven
+given-known bare = refl
+given-known (given t) = refl
 
 module _ (names : List NameFacts) where
   abbrev recordFor : Declarator → DeclaratorRecord

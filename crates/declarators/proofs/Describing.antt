@@ -1,36 +1,29 @@
 -- What is known of the tree at a place, by what was read of it. Assumes nothing.
-use Prim.Native.Nat.{ℕ, _*_, _≤_, _+_}
+use Prim.Native.Nat.{ℕ, _*_}
 use mathlib.Core.Bool.{Bool, _&&_, _||_}
 use mathlib.Core.List.{List}
 use mathlib.Core.Path.{_≡_, refl, sym, ap, ap₂}
 use lib.Dec.{eqb}
-use lib.ListN.{length}
 use Rattle.records.specs.Record.{nodeAt}
 use Rattle.records.specs.Tree.{Tree, node, recordOf, nodeOf}
 use Rattle.records.specs.File.{firstTree}
 use Rattle.records.specs.Place.{root}
 use Rattle.records.specs.declared.layout.NameId.{NameId}
 use Rattle.records.specs.declared.layout.NodeRecord.{NodeRecord}
-use Rattle.table.specs.Laid.{TreeAt, Stands}
-use Rattle.table.proofs.Laid.{node-at, room-node}
-use Rattle.effects.specs.Passes.{Passes}
-use Rattle.effects.proofs.Passing.{passes-tree}
+use Rattle.table.specs.Laid.{TreeAt}
+use Rattle.table.proofs.Laid.{node-at}
 use Rattle.walk.specs.Shape.{is, isMemberExpression}
-use Rattle.walk.specs.Effect.{isLiteralValue}
+use Rattle.walk.specs.Effect.{mayHaveSideEffects, isLiteralValue}
 use Rattle.walk.specs.Substitute.{isMemberTag}
 use Rattle.plans.specs.Child.{FirstChild}
 use Rattle.plans.specs.Described.{Describes}
-
--- a tree has a node
-pub stands-room : {table : List ℕ} {at : ℕ} → Stands table at → 16 * at + 16 ≤ length table
-stands-room s = room-node (s .3)
 
 -- the tree's root is what was read
 pub root-is : {table : List ℕ} {at : ℕ} {n : NodeRecord} → n ≡ nodeAt table (16 * at) → {pre rest : List ℕ} (t : Tree) → TreeAt table at t pre rest → root t ≡ nodeOf n
 unfolding recordOf nodeOf
 root-is e (node m kids) h = rw (e, node-at h) refl
 
-module _ {table : List ℕ} {at next : ℕ} {n : NodeRecord} (child : NodeRecord) {effect member inner : Bool} (e : n ≡ nodeAt table (16 * at)) (f : FirstChild table at child) (p : Passes table at 1 next effect) (k : member ≡ isMemberExpression (nodeOf n)) (i : inner ≡ isMemberExpression (nodeOf child)) (name : NameId) where
+module _ {table : List ℕ} {at : ℕ} {n : NodeRecord} (child : NodeRecord) {effect member inner : Bool} (e : n ≡ nodeAt table (16 * at)) (f : FirstChild table at child) (p : (pre : List ℕ) (t : Tree) (rest : List ℕ) → TreeAt table at t pre rest → effect ≡ mayHaveSideEffects t) (k : member ≡ isMemberExpression (nodeOf n)) (i : inner ≡ isMemberExpression (nodeOf child)) (name : NameId) where
   pub described : (pre : List ℕ) (t : Tree) (rest : List ℕ) → TreeAt table at t pre rest
       → Describes (record { name = name; effect = effect; literal = eqb (n .kind) 1 || eqb (n .kind) 2; «member_or_chain» = member || eqb (n .kind) 13; «member_tag» = member || eqb (n .kind) 13 && inner }) t
       × (name ≡ name)
@@ -39,7 +32,7 @@ module _ {table : List ℕ} {at next : ℕ} {n : NodeRecord} (child : NodeRecord
       let q : nodeOf n ≡ m = sym (root-is e (node m kids) h) in
       let c : nodeOf child ≡ root (firstTree kids) = sym (f pre m kids rest h) in (
         record {
-          effect = passes-tree p h .1;
+          effect = p pre (node m kids) rest h;
           literal = ap (λ x. is 1 x || is 2 x) q;
           member-or-chain = rw k (ap (λ x. isMemberExpression x || is 13 x) q);
           member-tag = rw (k, i) (ap₂ (λ x y. isMemberExpression x || is 13 x && isMemberExpression y) q c);

@@ -5,7 +5,7 @@ ghost use Prim.Native.Nat.{ℕ};
 ghost use Rattle.records.specs.Tree.{Tree};
 ghost use Rattle.table.specs.Laid.{TreeAt, Stands};
 ghost use Rattle.plans.specs.Described.{Describes};
-use effects::pass_row;
+use effects::tree::may_have_side_effects;
 use plans::child::first_child;
 use plans::shape::is_member_expression;
 use plans::sought::Sought;
@@ -20,12 +20,12 @@ pub fn describe(nodes: &[u8], at: NodeId, name: NameId) -> Sought
 {
     let n = work_node(nodes, at);
     let child = first_child(nodes, at, n);
-    let passed = pass_row(nodes, at, 1);
+    let effect = may_have_side_effects(nodes, at);
     let member = is_member_expression(n);
     let chain = n.kind == 13;
     Sought {
         name,
-        effect: passed.effect,
+        effect,
         literal: (n.kind == 1) | (n.kind == 2),
         member_or_chain: member | chain,
         member_tag: member | chain & is_member_expression(child),

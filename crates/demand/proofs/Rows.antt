@@ -21,7 +21,7 @@ use Rattle.records.specs.Count.{goodCounts, badCounts, readsOf, targetsOf}
 use Rattle.records.specs.File.{one, namesOf, scopesOf, framesOf, nodesOf, isGiven, Declarator, File, read, declaratorRecords, allDeclarators, allTrees}
 use Rattle.records.specs.declared.layout.NameFacts.{NameFacts}
 use Rattle.records.specs.declared.layout.NodeRecord.{NodeRecord}
-use Rattle.records.proofs.Tests.{every-parts}
+use Rattle.records.proofs.Tests.{every-parts, clash, both, neither}
 use Rattle.walk.specs.Context.{contextOf, factsOf as factsIn}
 use Rattle.walk.specs.Unsettled.{isWritten, symbolValueMayChange, isClosedOverBlockScopedRead, unsettled, isImport}
 use Rattle.walk.specs.Context.{isScript}
@@ -31,7 +31,6 @@ use Rattle.runs.specs.Shapes.{someIn, someOf, declaredIn, declared, evalWhole, 
 use Rattle.runs.specs.Facts.{thisUnblocked}
 use Rattle.roundtrip.proofs.Accepted.{Accepted as Passed, good-script, good-nodes, good-trees}
 use Rattle.roundtrip.proofs.ReadFile.{namesOf-length, read-declarators, read-trees, read-nodes}
-use Rattle.preservation.proofs.Tests.{and-true, or-none, clash}
 use Rattle.preservation.proofs.WellMade.{wellMade, allWellMade, make-node, make-more}
 use Rattle.preservation.proofs.Totals.{totalOf, sums, trees, program-sums, program-declarators, declaring}
 use Rattle.preservation.proofs.Fine.{Accepted, Fine, unblockedAt}
@@ -42,8 +41,8 @@ use Rattle.preservation.proofs.Fit.{misfit, fit-whole}
 every-at : {A : Type 0} (good : ℕ → A → Bool) (i : ℕ) (xs : List A) (k : ℕ) (d : A) → everyFrom good i xs ≡ true → k < length xs → (j : ℕ) → j ≡ i + k → good j (getD xs k d) ≡ true
 unfolding everyFrom
 every-at good i [] k d e h j q = absurd (omega arith)
-every-at good i (x ∷ xs) zero d e h j q = let z : j ≡ i = omega arith in subst (λ n. good n x ≡ true) (sym z) (and-true (good i x) (everyFrom good (i + 1) xs) e .0)
-every-at good i (x ∷ xs) (suc k) d e h j q = every-at good (i + 1) xs k d (and-true (good i x) (everyFrom good (i + 1) xs) e .1) (omega arith) j (omega arith)
+every-at good i (x ∷ xs) zero d e h j q = let z : j ≡ i = omega arith in subst (λ n. good n x ≡ true) (sym z) (both (good i x) (everyFrom good (i + 1) xs) e .0)
+every-at good i (x ∷ xs) (suc k) d e h j q = every-at good (i + 1) xs k d (both (good i x) (everyFrom good (i + 1) xs) e .1) (omega arith) j (omega arith)
 
 -- behind the last there is none
 getD-out : {A : Type 0} (xs : List A) (k : ℕ) (d : A) → length xs ≤ k → getD xs k d ≡ d
@@ -79,10 +78,10 @@ module _ (names : List NameFacts) where
   unfolding sums rootsStand placed wellMade
   no-misfits none a b c = refl
   no-misfits (more t ts) a b c =
-      let (a₁, a₂) = and-true (isExpression (root t .kind) && not (loose t)) (rootsStand ts) a in
-      let (a₃, a₄) = and-true (isExpression (root t .kind)) (not (loose t)) a₁ in
-      let (b₁, b₂) = and-true (placed t) (allPlaced ts) b in
-      let (c₁, c₂) = and-true (wellMade names t) (allWellMade names ts) c in
+      let (a₁, a₂) = both (isExpression (root t .kind) && not (loose t)) (rootsStand ts) a in
+      let (a₃, a₄) = both (isExpression (root t .kind)) (not (loose t)) a₁ in
+      let (b₁, b₂) = both (placed t) (allPlaced ts) b in
+      let (c₁, c₂) = both (wellMade names t) (allWellMade names ts) c in
       let h = fit-whole names t b₁ c₁ a₃ (not-true (loose t) a₄) in
       let g : _≡_ {A = ℕ} (misfit names t) 0 = rw h in
       let i = no-misfits ts a₂ b₂ c₂ in
@@ -103,7 +102,7 @@ no-evals : (names : List NameFacts) (ds : List Declarator) → someEval names ds
 unfolding someEval totalOf
 no-evals names [] e = refl
 no-evals names (d ∷ ds) e =
-    let (a, b) = or-none (evalWhole names (d .initializer)) (someEval names ds) e in
+    let (a, b) = neither (evalWhole names (d .initializer)) (someEval names ds) e in
     let g : _≡_ {A = ℕ} (one (evalWhole names (d .initializer))) 0 = rw a in
     let h = no-evals names ds b in
     omega (arith, g, h)
@@ -114,7 +113,7 @@ module _ (a : ℕ) where
   unfolding declares declaratorRecords totalOf
   undeclared [] e = refl
   undeclared (d ∷ ds) e =
-      let (x, y) = or-none (eqb (d .name) a) (declares a (declaratorRecords ds)) e in
+      let (x, y) = neither (eqb (d .name) a) (declares a (declaratorRecords ds)) e in
       let g : _≡_ {A = ℕ} (one (eqb (d .name) a)) 0 = rw x in
       let h = undeclared ds y in
       omega (arith, g, h)
@@ -123,7 +122,7 @@ module _ (a : ℕ) where
   unfolding declaredTwice declaratorRecords totalOf
   declared-once [] n e = omega arith
   declared-once (d ∷ ds) n e =
-      let (x, y) = or-none (not (eqb (d .name) noNumber) && declares (d .name) (declaratorRecords ds)) (declaredTwice (declaratorRecords ds)) e in
+      let (x, y) = neither (not (eqb (d .name) noNumber) && declares (d .name) (declaratorRecords ds)) (declaredTwice (declaratorRecords ds)) e in
       by (eqb (d .name) a) refl x (declared-once ds n y)
     where
       by : (b : Bool) → eqb (d .name) a ≡ b → (not (eqb (d .name) noNumber) && declares (d .name) (declaratorRecords ds)) ≡ false → totalOf (declaring a) (λ t. 0) ds ≤ 1 → one (eqb (d .name) a) + totalOf (declaring a) (λ t. 0) ds ≤ 1
@@ -148,7 +147,7 @@ module _ (a : ℕ) where
         where
           told : (leb present 1 && (ltb a (length names) && not (unresolved (flagsOf names a)))) ≡ true → (ltb a (length names) ≡ true) × (unresolved (flagsOf names a) ≡ false)
           told g =
-              let (p, q) = and-true (ltb a (length names)) (not (unresolved (flagsOf names a))) (and-true (leb present 1) _ g .1) in
+              let (p, q) = both (ltb a (length names)) (not (unresolved (flagsOf names a))) (both (leb present 1) _ g .1) in
               (p, not-true (unresolved (flagsOf names a)) q)
 
       by : (b : Bool) → eqb (d .name) a ≡ b → goodDeclarator names (record { name = d .name; present = isGiven (d .initializer) }) ≡ true → (declaredIn a ds ≡ true → (ltb a (length names) ≡ true) × (unresolved (flagsOf names a) ≡ false)) → (ltb a (length names) ≡ true) × (unresolved (flagsOf names a) ≡ false)
@@ -164,16 +163,16 @@ unresolved-off false y z e g = e
 plain-name : (scopes : ℕ) (n : NameFacts) → goodName scopes n ≡ true → unresolved (n .flags) ≡ false → isEval (n .flags) ≡ false
 unfolding goodName
 plain-name scopes n e g =
-    let (x, y) = and-true (ltb (n .flags) 512) (unresolved (n .flags) && goodUnresolved n || not (unresolved (n .flags)) && goodResolved scopes n) e in
+    let (x, y) = both (ltb (n .flags) 512) (unresolved (n .flags) && goodUnresolved n || not (unresolved (n .flags)) && goodResolved scopes n) e in
     let z = unresolved-off (unresolved (n .flags)) (goodUnresolved n) (goodResolved scopes n) y g in
-    not-true (isEval (n .flags)) (and-true (not (isEval (n .flags))) (ltb (n .scope) scopes) (and-true (not (isEval (n .flags)) && ltb (n .scope) scopes) _ z .0) .0)
+    not-true (isEval (n .flags)) (both (not (isEval (n .flags))) (ltb (n .scope) scopes) (both (not (isEval (n .flags)) && ltb (n .scope) scopes) _ z .0) .0)
 
 -- the counts of a recorded name, and the targets of one that isn't written
 recorded-counts : (n : NameFacts) (reads targets : ℕ) → goodCounts n reads targets ≡ true → unresolved (n .flags) ≡ false → recorded (n .flags) ≡ true → (reads ≤ n .reads) × (targets ≤ n .writes)
 unfolding goodCounts
 recorded-counts n reads targets e u r =
     let x : (leb reads (n .reads) && leb targets (n .writes) || false) ≡ true = rw (u, r) at e in
-    let (a, b) = and-true (leb reads (n .reads)) (leb targets (n .writes)) (or-false (leb reads (n .reads) && leb targets (n .writes)) x) in
+    let (a, b) = both (leb reads (n .reads)) (leb targets (n .writes)) (or-false (leb reads (n .reads) && leb targets (n .writes)) x) in
     (leb-true reads (n .reads) a, leb-true targets (n .writes) b)
   where
     or-false : (b : Bool) → (b || false) ≡ true → b ≡ true
@@ -207,21 +206,21 @@ module _ (bs : List ℕ) (room : ℕ) (a : Passed bs room) where
   unfolding badFacts
   good-names =
       let g = not-false (every (goodName (length (scopesOf bs))) (namesOf bs) && everyFrom goodScope 0 (scopesOf bs) && every (goodFrame (length (scopesOf bs))) (framesOf bs)) (a .facts) in
-      and-true (every (goodName (length (scopesOf bs))) (namesOf bs)) (everyFrom goodScope 0 (scopesOf bs)) (and-true (every (goodName (length (scopesOf bs))) (namesOf bs) && everyFrom goodScope 0 (scopesOf bs)) _ g .0) .0
+      both (every (goodName (length (scopesOf bs))) (namesOf bs)) (everyFrom goodScope 0 (scopesOf bs)) (both (every (goodName (length (scopesOf bs))) (namesOf bs) && everyFrom goodScope 0 (scopesOf bs)) _ g .0) .0
 
   pub few-names : length (namesOf bs) ≤ 256
   unfolding outsideLimits
   few-names =
       let h = headerOf bs in
       let g = not-false (countsFit h && optionsKnown h && headerScopes h && eqb (h .last) 0) (a .limits) in
-      let x₁ = and-true (countsFit h) (optionsKnown h) (and-true (countsFit h && optionsKnown h) (headerScopes h) (and-true (countsFit h && optionsKnown h && headerScopes h) (eqb (h .last) 0) g .0) .0) .0 in
-      let x₂ = and-true _ (leb (h .nodes + 2 * h .declarators) 3000) x₁ .0 in
-      let x₃ = and-true _ (leb (h .statements) 500) x₂ .0 in
-      let x₄ = and-true _ (leb 1 (h .statements)) x₃ .0 in
-      let x₅ = and-true _ (leb (h .declarators) 500) x₄ .0 in
-      let x₆ = and-true _ (leb (h .frames) 16) x₅ .0 in
-      let x₇ = and-true _ (leb (h .scopes) 256) x₆ .0 in
-      let x₈ = and-true (leb (h .names) 256) (leb 1 (h .scopes)) x₇ .0 in
+      let x₁ = both (countsFit h) (optionsKnown h) (both (countsFit h && optionsKnown h) (headerScopes h) (both (countsFit h && optionsKnown h && headerScopes h) (eqb (h .last) 0) g .0) .0) .0 in
+      let x₂ = both _ (leb (h .nodes + 2 * h .declarators) 3000) x₁ .0 in
+      let x₃ = both _ (leb (h .statements) 500) x₂ .0 in
+      let x₄ = both _ (leb 1 (h .statements)) x₃ .0 in
+      let x₅ = both _ (leb (h .declarators) 500) x₄ .0 in
+      let x₆ = both _ (leb (h .frames) 16) x₅ .0 in
+      let x₇ = both _ (leb (h .scopes) 256) x₆ .0 in
+      let x₈ = both (leb (h .names) 256) (leb 1 (h .scopes)) x₇ .0 in
       let y = leb-true (h .names) 256 x₈ in
       let z = namesOf-length bs in
       omega (arith, y, z)
@@ -263,10 +262,10 @@ module _ (bs : List ℕ) (room : ℕ) (a : Passed bs room) where
   settled-name x e = told (parts e)
     where
       parts : settled f x ≡ true → (ltb x (length (f .names)) ≡ true) × (unsettled (contextOf f) x ≡ false)
-      parts e = unfold settled in (let (p, q) = and-true (ltb x (length (f .names))) (not (unsettled (contextOf f) x)) e in (p, not-true (unsettled (contextOf f) x) q))
+      parts e = unfold settled in (let (p, q) = both (ltb x (length (f .names))) (not (unsettled (contextOf f) x)) e in (p, not-true (unsettled (contextOf f) x) q))
 
       reasons : unsettled (contextOf f) x ≡ false → (unresolved (factsOf f x .flags) ≡ false) × (isWritten (factsOf f x) ≡ false)
-      reasons q = unfold unsettled symbolValueMayChange in (let (g, h) = or-none (unresolved (factsOf f x .flags) || symbolValueMayChange (contextOf f) (factsOf f x)) (isClosedOverBlockScopedRead (contextOf f) (factsOf f x)) q in let (i, j) = or-none (unresolved (factsOf f x .flags)) (symbolValueMayChange (contextOf f) (factsOf f x)) g in (i, or-none (isImport (factsOf f x .flags) || isScript (contextOf f) && eqb (factsOf f x .scope) 0) (isWritten (factsOf f x)) j .1))
+      reasons q = unfold unsettled symbolValueMayChange in (let (g, h) = neither (unresolved (factsOf f x .flags) || symbolValueMayChange (contextOf f) (factsOf f x)) (isClosedOverBlockScopedRead (contextOf f) (factsOf f x)) q in let (i, j) = neither (unresolved (factsOf f x .flags)) (symbolValueMayChange (contextOf f) (factsOf f x)) g in (i, neither (isImport (factsOf f x .flags) || isScript (contextOf f) && eqb (factsOf f x .scope) 0) (isWritten (factsOf f x)) j .1))
 
       told : (ltb x (length (f .names)) ≡ true) × (unsettled (contextOf f) x ≡ false) → (eqb noNumber x ≡ false) × (targetsOf x (allTrees (f .statements)) ≡ 0)
       told (p, q) =

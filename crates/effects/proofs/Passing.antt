@@ -1,6 +1,6 @@
 -- A row of trees of the work table, passed node by node. Assumes nothing.
 use mathlib.Core.Path.{_≡_, refl, sym, _∙_}
-use mathlib.Core.Bool.{Bool, false, _||_, or-false}
+use mathlib.Core.Bool.{Bool, true, false, _||_, or-false}
 use mathlib.Core.List.{List}
 use Prim.Native.Nat.{ℕ, _+_, _-_, _*_, _≤_, _<_}
 use native.Mathlib.Omega.{arith}
@@ -58,6 +58,11 @@ passing-more {effect = effect} (more (node n kids) ts) l some r children own is 
       },
     )
 
+-- a node with an effect: so has the row
+pub effect-seen : {table : List ℕ} {at : ℕ} {ts : Trees} {rest pre : List ℕ} {next pending : ℕ} (left : Trees)
+    → Left table at ts rest next pending false pre left → 0 < pending → (r : NodeRecord) → r ≡ nodeAt table (16 * next) → true ≡ hasEffect (nodeOf r) → true ≡ anyHasSideEffects ts
+effect-seen left l some r is o = passing-more left l some r (r .children) true is refl o .2 .acts
+
 -- nothing is due: the row is passed
 pub passing-all : {table : List ℕ} {at : ℕ} {ts : Trees} {rest pre : List ℕ} {next pending : ℕ} {effect : Bool} (left : Trees)
     → Left table at ts rest next pending effect pre left → pending ≤ 0 → (next ≡ at + sizes ts) × (effect ≡ anyHasSideEffects ts)
@@ -65,9 +70,14 @@ unfolding count sizes anyHasSideEffects
 passing-all {effect = effect} none l over = (omega (arith, l .whole), sym (or-false effect) ∙ l .acts)
 passing-all (more t ts) l over = absurd (omega (arith, l .due))
 
+-- a row of one tree
+pub alone : (t : Tree) → (count (more t none) ≡ 1) × (anyHasSideEffects (more t none) ≡ mayHaveSideEffects t)
+unfolding count anyHasSideEffects
+alone t = (refl, or-false (mayHaveSideEffects t))
+
 -- A row of one tree, passed: where the tree ends, and its effect.
 pub passes-tree : {table : List ℕ} {at : ℕ} {t : Tree} {pre rest : List ℕ} {next : ℕ} {effect : Bool} → Passes table at 1 next effect → TreeAt table at t pre rest
     → (next ≡ at + size t) × (effect ≡ mayHaveSideEffects t)
 unfolding count sizes anyHasSideEffects
 passes-tree {t = t} {pre} {rest} p h =
-    let q = p pre (more t none) rest h refl in (omega (arith, q .0), q .1 ∙ or-false (mayHaveSideEffects t))
+    let q = p pre (more t none) rest h refl in (omega (arith, q .0), q .1 ∙ alone t .1)

@@ -1,4 +1,6 @@
 // Effects of the nodes of the work table, and where a row of trees ends.
+pub mod tree;
+
 ghost use mathlib.Core.Path.{_≡_};
 ghost use Rattle.records.specs.Tree.{nodeOf};
 ghost use Rattle.table.specs.Laid.{RowStands};

@@ -14,7 +14,7 @@ use Rattle.records.specs.declared.layout.Header.{Header}
 use Rattle.statements.specs.Fold.{withStatements, foldedFile, foldFile, Returned, refused, accepted, foldBytes}
 use Rattle.roundtrip.proofs.Accepted.{Accepted as Passed, accepted as rows-passed, has-header, has-length}
 use Rattle.roundtrip.proofs.PrintedFile.{printed-length}
-use Rattle.acceptance.proofs.Limits.{Lower, limits-parts, limits-lower}
+use Rattle.acceptance.proofs.Limits.{Lower, Within, limits-parts}
 use Rattle.acceptance.proofs.Acceptance.{lower, result-accepted}
 use Rattle.acceptance.proofs.Laws.{returned, length-most, result-is}
 use Rattle.result.specs.declared.header.Counts.{Counts}
@@ -23,6 +23,7 @@ use Rattle.result.specs.Result.{Hold, SameFacts, Stated, PutsResult}
 use Rattle.fold.specs.declared.Folded.{Folded}
 use Rattle.fold.specs.declared.Folded.the-variants.{Refused, Written}
 use Rattle.folding.specs.declared.in_order.Totals.{Totals}
+use Rattle.folding.specs.State.{mostNodes}
 use Rattle.folding.specs.Folds.{FoldsFile}
 use Rattle.fold.specs.Answer.{Numbers, numbers, numbersOf, laidOver}
 
@@ -53,11 +54,11 @@ module _ (bytes : List ℕ) (room : ℕ) (e : refusal bytes room ≡ 0) where
   pub long-file : (h : Header) → h ≡ headerOf bytes → length bytes ≡ fileLength h
   long-file h q = has-length rows ∙ ap fileLength (sym q)
 
-  -- the counts of the result are within the limits
-  limits : (headerFor folded .nodes + 2 * headerFor folded .declarators ≤ 3000) × (headerFor folded .declarators ≤ 500) × (headerFor folded .statements ≤ 500)
-  limits =
-      let w = limits-parts (headerFor folded) (limits-lower (headerOf bytes) (headerFor folded) (lower bytes room rows) (rows .limits)) .0 in
-      (leb-true _ maxNodes (w .nodes), leb-true _ maxDeclarators (w .declarators), leb-true _ maxStatements (w .statements))
+  -- the counts of the file are within the limits
+  pub within-limits : (h : Header) → h ≡ headerOf bytes → (mostNodes h ≤ 3000) × (h .declarators ≤ 500) × (h .statements ≤ 500)
+  within-limits h q =
+      let w = subst Within (sym q) (limits-parts (headerOf bytes) (rows .limits) .0) in
+      (leb-true (mostNodes h) maxNodes (w .nodes), leb-true (h .declarators) maxDeclarators (w .declarators), leb-true (h .statements) maxStatements (w .statements))
 
   same-facts : SameFacts folded (read bytes)
   unfolding foldFile foldedFile withStatements
@@ -68,15 +69,19 @@ module _ (bytes : List ℕ) (room : ℕ) (e : refusal bytes room ≡ 0) where
     stated : Stated (folded .statements) nodes declarators statements (countsOf t) rest₁ rest₂ rest₃
     stated = record { trees = w .trees; declared = w .declared; stated = w .stated; used = w .used; many = w .many; listed = w .count }
 
-    counted : (t .used + 2 * t .many ≤ 3000) × (t .many ≤ 500) × (t .count ≤ 500)
-    unfolding headerFor
-    counted = (omega (arith, limits .0, w .used, w .many), omega (arith, limits .1, w .many), omega (arith, limits .2, w .count))
+    -- the counts of the result are no more than those of the file
+    module _ (h : Header) (q : h ≡ headerOf bytes) where
+      counted : (t .used + 2 * t .many ≤ mostNodes h) × (t .many ≤ h .declarators) × (t .count ≤ h .statements)
+      unfolding headerFor
+      counted =
+          let l = subst (λ (x : Header). Lower x (headerFor folded)) (sym q) (lower bytes room rows) in
+          (omega (arith, l .nodes, w .used, w .many), omega (arith, l .declarators, w .many), omega (arith, l .statements, w .count))
 
-    pub countable : Countable (countsOf t)
-    countable = (omega (arith, counted .0), omega (arith, counted .1), omega (arith, counted .2))
+      pub countable : Countable (countsOf t)
+      countable = let l = within-limits h q in (omega (arith, l .0, counted .0), omega (arith, l .1, counted .1), omega (arith, l .2, counted .2))
 
-    pub held : 48000 ≤ length nodes → 2000 ≤ length declarators → 2000 ≤ length statements → Hold nodes declarators statements (countsOf t)
-    held a b c = (omega (arith, counted .0, a), omega (arith, counted .1, b), omega (arith, counted .2, c))
+      pub held : 16 * mostNodes h ≤ length nodes → 4 * h .declarators ≤ length declarators → 4 * h .statements ≤ length statements → Hold nodes declarators statements (countsOf t)
+      held a b c = (omega (arith, counted .0, a), omega (arith, counted .1, b), omega (arith, counted .2, c))
 
     same-length : (h : Header) → h ≡ headerOf bytes → fileLength (resultHeader h (countsOf t)) ≡ length (print folded)
     unfolding headerFor

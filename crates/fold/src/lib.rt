@@ -2,11 +2,15 @@
 ghost use mathlib.Core.Path.{_≡_};
 ghost use Prim.Native.Nat.{_≤_};
 ghost use lib.ListN.{length};
+ghost use Rattle.records.specs.Record.{headerOf};
 ghost use Rattle.records.specs.Refusal.{refusal as refusalOf};
 ghost use Rattle.statements.specs.Fold.{foldBytes};
+ghost use Rattle.folding.specs.State.{mostNodes, Long};
 ghost use Rattle.fold.specs.Answer.{numbers, numbersOf, laidOver};
 use folding::in_order::fold_statements;
+use records::layout::Header;
 use records::layout::header_of;
+use records::number::size;
 use refusal::answer::number_of;
 use refusal::check::refusal;
 use result::header::Counts;
@@ -22,6 +26,7 @@ pub enum Folded {
 // the declarators' trees begin.
 fn fold_over(
     file: &[u8],
+    h: Header,
     output: &mut [u8],
     nodes: &mut [u8],
     declarators: &mut [u8],
@@ -29,14 +34,11 @@ fn fold_over(
     statements: &mut [u8],
 ) -> Folded
     requires { ⌜ refusalOf (now file) (length (now output)) ≡ 0 ⌝ }
-    requires { ⌜ 48000 ≤ length (now nodes) ⌝ }
-    requires { ⌜ 2000 ≤ length (now declarators) ⌝ }
-    requires { ⌜ 500 ≤ length (now starts) ⌝ }
-    requires { ⌜ 2000 ≤ length (now statements) ⌝ }
+    requires { ⌜ h ≡ headerOf (now file) ⌝ }
+    requires { ⌜ Long h (now nodes) (now declarators) (now starts) (now statements) ⌝ }
     ensures { λ r. ⌜ numbers r ≡ numbersOf (foldBytes (now (file .entry)) (length (now (output .entry)))) ⌝ }
     ensures { λ _. ⌜ now (output .exit) ≡ laidOver (foldBytes (now (file .entry)) (length (now (output .entry)))) (now (output .entry)) ⌝ }
 {
-    let h = header_of(file);
     let t = fold_statements(file, h, nodes, declarators, starts, statements);
     let counts = Counts {
         nodes: t.used,
@@ -47,9 +49,34 @@ fn fold_over(
     Folded::Written(length, t.folds)
 }
 
-// The tables of the limits.
-fn fold_accepted(file: &[u8], output: &mut [u8]) -> Folded
+// Tables of a small file, which are sooner cleared: 240 nodes, 120 declarators and statements.
+fn fold_small(file: &[u8], h: Header, output: &mut [u8]) -> Folded
     requires { ⌜ refusalOf (now file) (length (now output)) ≡ 0 ⌝ }
+    requires { ⌜ h ≡ headerOf (now file) ⌝ }
+    requires { ⌜ mostNodes h ≤ 240 ⌝ }
+    requires { ⌜ h .statements ≤ 120 ⌝ }
+    ensures { λ r. ⌜ numbers r ≡ numbersOf (foldBytes (now (file .entry)) (length (now (output .entry)))) ⌝ }
+    ensures { λ _. ⌜ now (output .exit) ≡ laidOver (foldBytes (now (file .entry)) (length (now (output .entry)))) (now (output .entry)) ⌝ }
+{
+    let mut nodes = [0u8; 3840];
+    let mut declarators = [0u8; 480];
+    let mut starts = [0usize; 120];
+    let mut statements = [0u8; 480];
+    fold_over(
+        file,
+        h,
+        output,
+        &mut nodes,
+        &mut declarators,
+        &mut starts,
+        &mut statements,
+    )
+}
+
+// Tables of the limits: 3,000 nodes, 500 declarators and statements.
+fn fold_large(file: &[u8], h: Header, output: &mut [u8]) -> Folded
+    requires { ⌜ refusalOf (now file) (length (now output)) ≡ 0 ⌝ }
+    requires { ⌜ h ≡ headerOf (now file) ⌝ }
     ensures { λ r. ⌜ numbers r ≡ numbersOf (foldBytes (now (file .entry)) (length (now (output .entry)))) ⌝ }
     ensures { λ _. ⌜ now (output .exit) ≡ laidOver (foldBytes (now (file .entry)) (length (now (output .entry)))) (now (output .entry)) ⌝ }
 {
@@ -59,12 +86,29 @@ fn fold_accepted(file: &[u8], output: &mut [u8]) -> Folded
     let mut statements = [0u8; 2000];
     fold_over(
         file,
+        h,
         output,
         &mut nodes,
         &mut declarators,
         &mut starts,
         &mut statements,
     )
+}
+
+// Over the tables that the counts of the file ask for.
+fn fold_accepted(file: &[u8], output: &mut [u8]) -> Folded
+    requires { ⌜ refusalOf (now file) (length (now output)) ≡ 0 ⌝ }
+    ensures { λ r. ⌜ numbers r ≡ numbersOf (foldBytes (now (file .entry)) (length (now (output .entry)))) ⌝ }
+    ensures { λ _. ⌜ now (output .exit) ≡ laidOver (foldBytes (now (file .entry)) (length (now (output .entry)))) (now (output .entry)) ⌝ }
+{
+    let h = header_of(file);
+    let nodes = size(h.nodes) + 2 * size(h.declarators);
+    let statements = size(h.statements);
+    let small = (nodes <= 240) & (statements <= 120);
+    if small {
+        return fold_small(file, h, output);
+    }
+    fold_large(file, h, output)
 }
 
 // Folds the record file `file` and lays the result down at the start of `output`; a refusal leaves `output` as it is, and so

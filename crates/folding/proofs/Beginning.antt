@@ -1,4 +1,4 @@
--- An accepted file before the first statement: everything is still to come, within the limits. Assumes nothing.
+-- An accepted file before the first statement: everything that its header counts is still to come. Assumes nothing.
 use mathlib.Core.Bool.{_&&_}
 use mathlib.Core.Path.{_≡_, refl, sym, ap, ap₂, _∙_}
 use mathlib.Core.List.{List, []}
@@ -64,25 +64,24 @@ module _ (file : List ℕ) (room : ℕ) (e : refusal file room ≡ 0) where
   a = accepted file room e
 
   -- row 3
-  limits : (h .declarators ≤ 500) × (h .statements ≤ 500) × (h .nodes + 2 * h .declarators ≤ 3000)
+  few-declarators : h .declarators ≤ 500
   unfolding outsideLimits
-  limits =
+  few-declarators =
       let g = not-false (countsFit h && optionsKnown h && headerScopes h && eqb (h .last) 0) (a .limits) in
       let x₁ = both (countsFit h) (optionsKnown h) (both (countsFit h && optionsKnown h) (headerScopes h) (both (countsFit h && optionsKnown h && headerScopes h) (eqb (h .last) 0) g .0) .0) .0 in
       let c₁ = leb (h .names) maxNames && leb minScopes (h .scopes) && leb (h .scopes) maxScopes && leb (h .frames) maxFrames in
       let c₂ = leb (h .declarators) maxDeclarators in
       let c₃ = leb minStatements (h .statements) in
       let c₄ = leb (h .statements) maxStatements in
-      let (x₂, x₃) = both (c₁ && c₂ && c₃ && c₄) (leb (h .nodes + 2 * h .declarators) maxNodes) x₁ in
-      let (x₄, x₅) = both (c₁ && c₂ && c₃) c₄ x₂ in
-      let x₆ = both c₁ c₂ (both (c₁ && c₂) c₃ x₄ .0) .1 in
-      (leb-true (h .declarators) 500 x₆, leb-true (h .statements) 500 x₅, leb-true (h .nodes + 2 * h .declarators) 3000 x₃)
+      let x₂ = both (c₁ && c₂ && c₃ && c₄) (leb (h .nodes + 2 * h .declarators) maxNodes) x₁ .0 in
+      let x₃ = both (c₁ && c₂ && c₃) c₄ x₂ .0 in
+      leb-true (h .declarators) 500 (both c₁ c₂ (both (c₁ && c₂) c₃ x₃ .0) .1)
 
   nodes-are : sizes (allTrees ss) ≡ h .nodes
   unfolding headerFor
   nodes-are = ap (λ (x : Header). x .nodes) (read-header file room a)
 
-  statements-are : length ss ≡ h .statements
+  pub statements-are : length ss ≡ h .statements
   unfolding headerFor
   statements-are = ap (λ (x : Header). x .statements) (read-header file room a)
 
@@ -97,26 +96,17 @@ module _ (file : List ℕ) (room : ℕ) (e : refusal file room ≡ 0) where
   coming-all = record {
     trees = all-trees (allTrees ss) (sym (read-nodes file room a)) (omega (arith, has-length a));
     records = row-all declaratorAt file (declaratorsStart h) (h .declarators) (declaratorRecords (allDeclarators ss)) (read-declarators file room a) declared-length (omega (arith, has-length a));
-    few = omega (arith, declared-length, limits);
+    few = omega (arith, declared-length, few-declarators);
     names = accepted-bare file room e;
   }
 
   pub taking-all : (nodes records starts statements : List ℕ) → Taking file h nodes records starts statements atStart [] ss nodes []
-  taking-all nodes records starts statements =
-      let l = limits in
-      record {
-        holds = holds-none nodes records starts statements;
-        comes = coming-all;
-        room = record {
-          weight = omega (arith, l, nodes-are, declared-length);
-          declared = omega (arith, l, declared-length);
-          stated = omega (arith, l, statements-are);
-        };
-      }
+  taking-all nodes records starts statements = record {
+    holds = holds-none nodes records starts statements;
+    comes = coming-all;
+    room = record { weight = omega (arith, nodes-are, declared-length); declared = omega (arith, declared-length); stated = omega (arith, statements-are) };
+  }
 
   pub statements-coming : RecordRow statementAt file (statementsStart h) 0 (statementRecords ss)
   unfolding statementsOf
   statements-coming = row-all statementAt file (statementsStart h) (h .statements) (statementRecords ss) (read-statements file room a) stated-length (omega (arith, has-length a))
-
-  pub statements-number : length ss ≡ h .statements
-  statements-number = statements-are

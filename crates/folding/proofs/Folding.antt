@@ -6,12 +6,12 @@ use Prim.Native.Nat.{ℕ, suc, _+_, _-_, _≤_, _<_}
 use native.Mathlib.Omega.{arith}
 use lib.ListN.{length, length-reverse}
 use Rattle.records.specs.Tree.{Tree, more}
-use Rattle.records.specs.File.{DeclarationKind, Var, Let, Const, Using, AwaitUsing, Initializer, bare, given, Declarator, Statement, declaration, expression, other, declarationKind, kindNumber, declaratorsIn, statementNumber, statementRecord, initializerTrees, statementTrees, allTrees, declaratorRecords, allDeclarators}
+use Rattle.records.specs.File.{DeclarationKind, Initializer, bare, given, Declarator, Statement, declaration, expression, other, declarationKind, kindNumber, declaratorsIn, statementNumber, statementRecord, initializerTrees, statementTrees, allTrees, declaratorRecords, allDeclarators}
 use Rattle.records.specs.declared.layout.Header.{Header}
 use Rattle.records.specs.declared.layout.NodeRecord.{NodeRecord}
 use Rattle.records.specs.declared.layout.DeclaratorRecord.{DeclaratorRecord}
 use Rattle.records.specs.declared.layout.StatementRecord.{StatementRecord}
-use Rattle.roundtrip.proofs.PrintedStatements.{declaratorRecords-append, kind-small}
+use Rattle.roundtrip.proofs.PrintedStatements.{declaratorRecords-append, kind-small, kind-back}
 use Rattle.walk.specs.Context.{Context}
 use Rattle.statements.specs.Trace.{pure, _>>=_}
 use Rattle.statements.specs.Declarators.{isUnsearched, isUsing}
@@ -45,14 +45,6 @@ kind-is s st e = ap (λ (r : StatementRecord). r .kind) e
 many-is : (s : StatementRecord) (st : Statement) → s ≡ statementRecord st → s .declarators ≡ length (declaratorsIn st)
 unfolding statementRecord
 many-is s st e = ap (λ (r : StatementRecord). r .declarators) e
-
-kind-again : (kind : DeclarationKind) → declarationKind (kindNumber kind) ≡ kind
-unfolding kindNumber declarationKind
-kind-again Var = refl
-kind-again Let = refl
-kind-again Const = refl
-kind-again Using = refl
-kind-again AwaitUsing = refl
 
 module _ (s : StatementRecord) where
   pub is-declared : (st : Statement) → s ≡ statementRecord st → s .kind < 5 → (s .declarators ≡ 0 → ⊥) → Declared s st
@@ -162,10 +154,10 @@ module _ (ctx : Context) (file : List ℕ) (h : Header) (nodes records starts st
         by _ (expressed t) a = (ks, t, allTrees ss, declaratorRecords (allDeclarators ss), suc (length ss), rest, before, expression-state t ss a)
 
     module _ (nodes′ statements₁ : List ℕ) (l : Progress) (w : SearchedFromStatements ctx file h nodes nodes′ records starts statements statements₁ p l) where
-      pub expression-room : CanFold file h nodes records starts statements s p → l .count + 1 ≤ 500
+      pub expression-room : CanFold file h nodes records starts statements s p → l .count + 1 ≤ h .statements
       expression-room (ks, st, ss, rest, before, a, e) = by st (is-expressed s st e k) a
         where
-          by : (st : Statement) → Expressed st → Taking file h nodes records starts statements p ks (st ∷ ss) rest before → l .count + 1 ≤ 500
+          by : (st : Statement) → Expressed st → Taking file h nodes records starts statements p ks (st ∷ ss) rest before → l .count + 1 ≤ h .statements
           by _ (expressed t) a =
               let (rest′, before′, s′, f) = w ks t (allTrees ss) (declaratorRecords (allDeclarators ss)) (suc (length ss)) rest before (expression-state t ss a) in
               omega (arith, s′ .room .stated)
@@ -216,7 +208,7 @@ module _ (ctx : Context) (file : List ℕ) (h : Header) (nodes records starts st
               let w = inFirstDeclarator ctx ks (d ∷ []) .result in
               (omega (arith, s′ .holds .counted, first-length ctx ks d), (statements₁, w .left, w .target, ds, allTrees ss, declaratorRecords (allDeclarators ss), suc (length ss), rest′, before′, s′, omega (arith, en)))
 
-      module _ (searched : Bool) (es : searched ≡ not (isUnsearched ctx || isUsing (declarationKind (s .kind)))) (nodes₂ records₂ starts₂ : List ℕ) (l : Progress)
+      module _ (searched : Bool) (nodes₂ records₂ starts₂ : List ℕ) (l : Progress)
           (later : TakenAll ctx searched file h nodes₁ nodes₂ records₁ records₂ starts₁ starts₂ (f .many - 1) (number₀ - 1) f l) where
         later-state : (kind : DeclarationKind) (d : Declarator) (ds : List Declarator) (ks : List Kept) (ss : List Statement) (rest : List ℕ) (before : List NodeRecord)
             → s .declarators ≡ suc (length ds) → Taking file h nodes records starts statements p ks (declaration kind (d ∷ ds) ∷ ss) rest before
@@ -232,19 +224,19 @@ module _ (ctx : Context) (file : List ℕ) (h : Header) (nodes records starts st
             let (rest₂, before₂, s₂, m₂) = later statements₁ (w .result .left) (w .result .target) ds (allTrees ss) (declaratorRecords (allDeclarators ss)) (suc (length ss)) rest₁ before₁ s₁ (omega (arith, en)) (inFileOrder (w .result .left)) kind in
             (rest₂, before₂, s₂, omega (arith, m₁, m₂))
 
-        pub declaration-room : CanFold file h nodes records starts statements s p → (f .many - 1 ≤ l .many) × (l .many ≤ 500) × (l .count + 1 ≤ 500)
+        pub declaration-room : CanFold file h nodes records starts statements s p → (f .many - 1 ≤ l .many) × (l .many ≤ h .declarators) × (l .count + 1 ≤ h .statements)
         declaration-room (ks, st, ss, rest, before, a, e) = by st (is-declared s st e k (λ q. n (en₀ ∙ q))) a
           where
             by : (st : Statement) → Declared s st → Taking file h nodes records starts statements p ks (st ∷ ss) rest before
-                → (f .many - 1 ≤ l .many) × (l .many ≤ 500) × (l .count + 1 ≤ 500)
+                → (f .many - 1 ≤ l .many) × (l .many ≤ h .declarators) × (l .count + 1 ≤ h .statements)
             by _ (declared kind d ds ek en) a =
                 let (rest′, before′, s′, m) = later-state kind d ds ks ss rest before en a in
                 (omega (arith, s′ .holds .counted), omega (arith, s′ .room .declared), omega (arith, s′ .room .stated))
 
-        pub declaration-folds : (statements′ : List ℕ) (x : StatementRecord) (r : Progress) → x ≡ record { kind = s .kind; zero = 0; declarators = l .many - (f .many - 1) } → StatementPushed statements₁ statements′ (l .count) x → r ≡ statementPast l
+        pub declaration-folds : searched ≡ not (isUnsearched ctx || isUsing (declarationKind (s .kind))) → (statements′ : List ℕ) (x : StatementRecord) (r : Progress) → x ≡ record { kind = s .kind; zero = 0; declarators = l .many - (f .many - 1) } → StatementPushed statements₁ statements′ (l .count) x → r ≡ statementPast l
             → Folds ctx file h nodes nodes₂ records records₂ starts starts₂ statements statements′ s p r
         unfolding statementRecord statementNumber declaratorsIn
-        declaration-folds statements′ x r ex pushed er ks st ss rest before a e number = by st (is-declared s st e k (λ q. n (en₀ ∙ q))) a
+        declaration-folds es statements′ x r ex pushed er ks st ss rest before a e number = by st (is-declared s st e k (λ q. n (en₀ ∙ q))) a
           where
             by : (st : Statement) → Declared s st → Taking file h nodes records starts statements p ks (st ∷ ss) rest before
                 → (rest′ : List ℕ) × (before′ : List NodeRecord)
@@ -257,6 +249,6 @@ module _ (ctx : Context) (file : List ℕ) (h : Header) (nodes records starts st
                 let many : l .many - (f .many - 1) ≡ length (reverse (v .result)) = omega (arith, s′ .holds .counted, length-reverse (v .result)) in
                 let is : x ≡ statementRecord (declaration kind (reverse (v .result))) = ex ∙ (λ i. record { kind = ek i; zero = 0; declarators = many i }) in
                 let b = statement-state number (declaration kind (reverse (v .result))) (becomes-declaration kind (v .result)) s′ pushed is in
-                let same : searched ≡ not (isUnsearched ctx || isUsing kind) = es ∙ ap (λ (c : DeclarationKind). not (isUnsearched ctx || isUsing c)) (ap declarationKind ek ∙ kind-again kind) in
+                let same : searched ≡ not (isUnsearched ctx || isUsing kind) = es ∙ ap (λ (c : DeclarationKind). not (isUnsearched ctx || isUsing c)) (ap declarationKind ek ∙ kind-back kind) in
                 let (u, y) = handle-variable-declaration ctx ks number kind d ds searched same in
                 (rest′, before′, rw (er, u) b, rw (er, y) m)

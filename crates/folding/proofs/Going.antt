@@ -20,7 +20,7 @@ use Rattle.search.specs.declared.from_declarators.Searched.{Searched}
 use Rattle.search.specs.declared.in_statement.InStatement.{InStatement}
 use Rattle.search.specs.FromDeclarators.{CanSearch, SearchesFrom}
 use Rattle.search.specs.InStatement.{CanSearchStatements, SearchesStatements}
-use Rattle.folding.specs.State.{Long, State}
+use Rattle.folding.specs.State.{mostNodes, Long, State}
 use Rattle.folding.specs.Next.{HasTree, Loaded, CanTakeNext, SearchedFromStatements}
 use Rattle.folding.specs.Declarators.{recordFor, CanTakeFirst, TakenFirst, laterTree, CanTakeLaterTree, TakenLaterTree, laterDeclarator, laterDeclarators, CanTakeLater, TakenLater, CanTakeAll, TakenAll}
 use Rattle.folding.proofs.Taken.{next-loaded, next-searched, later-searched, record-is, given-tree, no-tree, push-given, push-bare, push-room}
@@ -30,10 +30,10 @@ use Rattle.folding.proofs.Definitions.{later-given, later-bare, first-g
 
 -- The next tree, for some state.
 module _ (file : List ℕ) (h : Header) (nodes records starts statements : List ℕ) (p : Progress) where
-  pub next-has-tree : CanTakeNext file h nodes records starts statements p → 48000 ≤ length nodes → HasTree file h nodes p
+  pub next-has-tree : CanTakeNext file h nodes records starts statements p → 16 * mostNodes h ≤ length nodes → HasTree file h nodes p
   next-has-tree (ks, t, ts, coming, left, rest, before, s) l = has-tree s l
 
-  pub next-can-search : CanTakeNext file h nodes records starts statements p → (nodes₁ : List ℕ) (q : Progress) → Loaded file h nodes nodes₁ p q → length nodes₁ ≡ length nodes → Long nodes records starts statements
+  pub next-can-search : CanTakeNext file h nodes records starts statements p → (nodes₁ : List ℕ) (q : Progress) → Loaded file h nodes nodes₁ p q → length nodes₁ ≡ length nodes → Long h nodes records starts statements
       → CanSearchStatements nodes₁ records starts statements (q .count) (q .many) (q .start) (q .used) × (4 * q .many ≤ length records) × (q .many ≤ length starts) × (4 * q .count ≤ length statements)
   next-can-search (ks, t, ts, coming, left, rest, before, s) nodes₁ q l e (a, b, c, d) =
       let s′ = next-loaded s l in
@@ -41,18 +41,18 @@ module _ (file : List ℕ) (h : Header) (nodes records starts statements : List 
       (can-search-statements s′ (omega arith), omega (arith, m .declared), omega (arith, m .declared), omega (arith, m .stated))
 
   pub next-folds-fit : CanTakeNext file h nodes records starts statements p → (ctx : Context) (nodes₁ : List ℕ) (q : Progress) → Loaded file h nodes nodes₁ p q
-      → (nodes₂ statements′ : List ℕ) (r : InStatement) → SearchesStatements ctx nodes₁ nodes₂ records starts statements statements′ (q .count) (q .many) (q .start) (q .used) r → q .folds + r .folds ≤ 500
+      → (nodes₂ statements′ : List ℕ) (r : InStatement) → SearchesStatements ctx nodes₁ nodes₂ records starts statements statements′ (q .count) (q .many) (q .start) (q .used) r → q .folds + r .folds ≤ h .declarators
   next-folds-fit (ks, t, ts, coming, left, rest, before, s) ctx nodes₁ q l nodes₂ statements′ r e =
       let (rest′, before′, s′, f) = next-searched s l ctx e in
       omega (arith, s′ .room .declared)
 
 -- the same behind declarators
 module _ (file : List ℕ) (h : Header) (nodes records starts : List ℕ) (low : ℕ) (p : Progress) where
-  pub later-has-tree : CanTakeLaterTree file h nodes records starts low p → 48000 ≤ length nodes → HasTree file h nodes p
+  pub later-has-tree : CanTakeLaterTree file h nodes records starts low p → 16 * mostNodes h ≤ length nodes → HasTree file h nodes p
   later-has-tree (statements, ks, done, t, ts, coming, left, rest, before, s) l = has-tree s l
 
   pub later-can-search : CanTakeLaterTree file h nodes records starts low p → (nodes₁ : List ℕ) (q : Progress) → Loaded file h nodes nodes₁ p q → length nodes₁ ≡ length nodes
-      → 48000 ≤ length nodes → 2000 ≤ length records → 500 ≤ length starts
+      → 16 * mostNodes h ≤ length nodes → 4 * h .declarators ≤ length records → h .declarators ≤ length starts
       → CanSearch nodes₁ records starts low (q .many) (q .start) (q .used) × (4 * q .many ≤ length records) × (q .many ≤ length starts)
   later-can-search (statements, ks, done, t, ts, coming, left, rest, before, s) nodes₁ q l e a b c =
       let s′ = loaded-state s l in
@@ -60,7 +60,7 @@ module _ (file : List ℕ) (h : Header) (nodes records starts : List ℕ) (low :
       (can-search s′ (omega arith), omega (arith, m .declared), omega (arith, m .declared))
 
   pub later-folds-fit : CanTakeLaterTree file h nodes records starts low p → (ctx : Context) (nodes₁ : List ℕ) (q : Progress) → Loaded file h nodes nodes₁ p q
-      → (nodes₂ : List ℕ) (r : Searched) → SearchesFrom ctx false nodes₁ nodes₂ records starts low (q .many) (q .start) (q .used) r → q .folds + r .folds ≤ 500
+      → (nodes₂ : List ℕ) (r : Searched) → SearchesFrom ctx false nodes₁ nodes₂ records starts low (q .many) (q .start) (q .used) r → q .folds + r .folds ≤ h .declarators
   later-folds-fit (statements, ks, done, t, ts, coming, left, rest, before, s) ctx nodes₁ q l nodes₂ r e =
       let (rest′, before′, s′, f) = later-searched s l ctx [] Var true refl e in
       omega (arith, s′ .room .declared)
@@ -74,7 +74,7 @@ module _ (ctx : Context) (file : List ℕ) (h : Header) (x : DeclaratorRecord) (
         (statements, ks, done, t, ts, recordFor d ∷ coming, left, rest, before, s′)
 
     module _ (searched : Bool) (nodes′ : List ℕ) (q : Progress) (l : TakenLaterTree ctx searched file h nodes nodes′ records starts low p q) where
-      pub can-push-later : CanTakeLater file h nodes records starts low p → (q .many + 1 ≤ 500) × (q .declarator < 65536)
+      pub can-push-later : CanTakeLater file h nodes records starts low p → (q .many + 1 ≤ h .declarators) × (q .declarator < 65536)
       can-push-later (statements, ks, done, d, ts, coming, left, rest, before, s) =
           let (t, e, s′) = given-tree d ts s x ex g in
           let (rest′, before′, s″, f) = l statements ks done t ts (recordFor d ∷ coming) left rest before s′ [] Var in
@@ -106,7 +106,7 @@ module _ (ctx : Context) (file : List ℕ) (h : Header) (x : DeclaratorRecord) (
         (ks, t, ts, recordFor d ∷ coming, left, rest, before, s′)
 
     module _ (nodes′ statements′ : List ℕ) (q : Progress) (l : SearchedFromStatements ctx file h nodes nodes′ records starts statements statements′ p q) where
-      pub can-push-first : CanTakeFirst file h nodes records starts statements p → (q .many + 1 ≤ 500) × (q .declarator < 65536)
+      pub can-push-first : CanTakeFirst file h nodes records starts statements p → (q .many + 1 ≤ h .declarators) × (q .declarator < 65536)
       can-push-first (ks, d, ts, coming, left, rest, before, s) =
           let (t, e, s′) = given-tree d ts s x ex g in
           let (rest′, before′, s″, f) = l ks t ts (recordFor d ∷ coming) left rest before s′ in

@@ -20,7 +20,7 @@ use Rattle.search.proofs.Going.{declarators-split, declarators-length}
 use Rattle.load.specs.Load.{FileTree}
 use Rattle.load.proofs.FileRow.{first, beyond}
 use Rattle.folding.specs.declared.progress.Progress.{Progress}
-use Rattle.folding.specs.State.{Holds, State}
+use Rattle.folding.specs.State.{mostNodes, Holds, State}
 use Rattle.folding.specs.Next.{HasTree, treePast, Loaded}
 
 -- the bytes of what is kept, before others
@@ -43,7 +43,7 @@ module _ {file : List ℕ} {h : Header} {nodes records starts statements : List 
   pub next-tree : FileTree file (nodesStart h) (p .node) t (h .nodes) before (preorders ts [])
   next-tree = first (s .comes .trees)
 
-  pub has-tree : 48000 ≤ length nodes → HasTree file h nodes p
+  pub has-tree : 16 * mostNodes h ≤ length nodes → HasTree file h nodes p
   unfolding sizes
   has-tree l = (t, h .nodes, before, preorders ts [], next-tree, omega (arith, s .room .weight))
 

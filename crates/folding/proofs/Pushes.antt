@@ -16,6 +16,7 @@ use Rattle.records.specs.declared.layout.StatementRecord.{StatementRecord}
 use Rattle.statements.specs.Statements.{Kept}
 use Rattle.search.specs.Kept.{laidInitializer, nodesOf, bareInitializer, laidDeclarators, nodesIn, bareDeclarators, Held}
 use Rattle.search.specs.KeptStatements.{laidStatement, nodesOfStatement, bareStatement, laidKept, nodesKept, declaratorsKept, bareKept, HeldKept}
+use Rattle.search.proofs.KeptRows.{held-same}
 use Rattle.folding.specs.declared.progress.Progress.{Progress}
 use Rattle.folding.specs.Pushed.{DeclaratorPushed, StatementPushed, declaratorPast, statementPast}
 use Rattle.folding.specs.State.{Holds, RecordRow, State}
@@ -37,13 +38,6 @@ module _ {records records′ starts starts′ : List ℕ} {many start : ℕ} {x 
     held-still (declaratorsKept ks) (nodesKept ks) (reverse (declaratorsIn (k .statement))) (omega (arith, length-reverse (declaratorsIn (k .statement)))) (h .1),
     kept-still statements ks (omega arith) (h .2),
   )
-
--- so do those before a statement that is written
-stated-still : {statements statements′ : List ℕ} {count : ℕ} {s : StatementRecord} → StatementPushed statements statements′ count s
-    → (records starts : List ℕ) (ks : List Kept) → length ks ≤ count → HeldKept records starts statements ks → HeldKept records starts statements′ ks
-unfolding HeldKept
-stated-still w records starts [] l h = tt
-stated-still w records starts (k ∷ ks) l h = (w .kept (length ks) (omega arith) ∙ h .0, h .1, stated-still w records starts ks (omega arith) (h .2))
 
 -- A declarator is pushed with the tree that stood behind the others, if it has one.
 pushed-declarator : {nodes records records′ starts starts′ statements : List ℕ} {low : ℕ} {p : Progress} {ks : List Kept} {ds : List Declarator} {rest : List ℕ} {x : DeclaratorRecord} (d : Declarator)
@@ -142,7 +136,7 @@ pushed-statement {records = records} {starts} {statements} {statements′} {low}
       kept = (
         subst (λ (k : ℕ). statementAt statements′ (4 * k) ≡ statementRecord s) (h .stated) (w .last ∙ e),
         subst (λ (k : ℕ). Held records starts k (nodesKept ks) (reverse (declaratorsIn s))) (h .declared) (subst (λ (l : List Declarator). Held records starts low (nodesKept ks) l) (sym (b .declared)) (h .held)),
-        stated-still w records starts ks (omega (arith, h .stated)) (h .kept),
+        held-same records starts statements statements′ ks (λ i l. w .kept i (omega (arith, l, h .stated))) (h .kept),
       );
       held = tt;
       names = rw (b .names (h .own-names) (h .tree-names), h .names);

@@ -2,7 +2,7 @@
 use mathlib.Core.Bool.{Bool, true, false, cond}
 use mathlib.Core.Path.{_≡_, refl, sym, ap, _∙_}
 use mathlib.Core.List.{List, [], _∷_, reverse}
-use Prim.Native.Nat.{ℕ, _+_, _≤_}
+use Prim.Native.Nat.{ℕ, _+_, _*_, _≤_}
 use native.Mathlib.Omega.{arith}
 use lib.ListN.{length}
 use Rattle.records.specs.Tree.{Tree, Trees}
@@ -19,7 +19,7 @@ use Rattle.walk.specs.Looks.{looksInExpression}
 use Rattle.statements.specs.Trace.{pure, looked, folded}
 use Rattle.statements.specs.Declarators.{endsSearch, FromDeclarators, ended, afterAnswer, fromDeclarator, substituteFromDeclarators}
 use Rattle.statements.specs.Statements.{Kept, substituteInStatement}
-use Rattle.statements.proofs.Totals.{total, total-reverse, initializerSize, declaratorSize, weight, keptWeight, keptDeclarators, from-declarators, in-statement}
+use Rattle.statements.proofs.Totals.{total, total-reverse, declaratorSize, weight, keptWeight, keptDeclarators, from-declarators, in-statement}
 use Rattle.search.specs.declared.from_declarators.Searched.{Searched}
 use Rattle.search.specs.declared.in_statement.InStatement.{InStatement}
 use Rattle.search.specs.Kept.{laidInitializer, nodesOf, bareInitializer, laidDeclarators, nodesIn, bareDeclarators, Held}
@@ -27,23 +27,14 @@ use Rattle.search.specs.KeptStatements.{nodesOfStatement, laidKept, nodesKept, 
 use Rattle.search.specs.FromDeclarators.{StandingRow, CanSearch, SearchesFrom}
 use Rattle.search.specs.InStatement.{CanSearchStatements, SearchesStatements}
 use Rattle.search.proofs.KeptRows.{kept-split, kept-length}
+use Rattle.search.proofs.InStatements.{nodes-in}
 use Rattle.folding.specs.declared.progress.Progress.{Progress}
-use Rattle.folding.specs.State.{State}
+use Rattle.folding.specs.State.{mostNodes, State}
 
 -- The nodes and declarators of what is kept, as sums.
-initializer-total : (i : Initializer) → nodesOf i ≡ initializerSize i
-unfolding nodesOf initializerSize
-initializer-total bare = refl
-initializer-total (given t) = refl
-
-nodes-total : (ds : List Declarator) → nodesIn ds ≡ total declaratorSize ds
-unfolding nodesIn total declaratorSize
-nodes-total [] = refl
-nodes-total (d ∷ ds) = omega (arith, nodes-total ds, initializer-total (d .initializer))
-
 statement-total : (s : Statement) → nodesOfStatement s + length (declaratorsIn s) ≡ weight s
 unfolding nodesOfStatement declaratorsIn weight
-statement-total (declaration kind ds) = omega (arith, nodes-total (reverse ds), total-reverse declaratorSize ds)
+statement-total (declaration kind ds) = omega (arith, nodes-in (reverse ds), total-reverse declaratorSize ds)
 statement-total (expression t) = omega arith
 statement-total other = refl
 
@@ -87,7 +78,7 @@ module _ {file : List ℕ} {h : Header} {nodes records starts statements : List 
         target-names = o .tree-names;
       }
 
-  pub can-search-statements : 48000 ≤ length nodes → CanSearchStatements nodes records starts statements (p .count) (p .many) (p .start) (p .used)
+  pub can-search-statements : 16 * mostNodes h ≤ length nodes → CanSearchStatements nodes records starts statements (p .count) (p .many) (p .start) (p .used)
   can-search-statements l = (ks, t, rest, keeps, omega (arith, s .room .weight))
 
   module _ (ctx : Context) {nodes′ statements′ : List ℕ} {r : InStatement} (e : SearchesStatements ctx nodes nodes′ records starts statements statements′ (p .count) (p .many) (p .start) (p .used) r) where
@@ -181,7 +172,7 @@ module _ {file : List ℕ} {h : Header} {nodes records starts statements : List 
         names = rw (o .own-names, o .tree-names);
       }
 
-  pub can-search : 48000 ≤ length nodes → CanSearch nodes records starts low (p .many) (p .start) (p .used)
+  pub can-search : 16 * mostNodes h ≤ length nodes → CanSearch nodes records starts low (p .many) (p .start) (p .used)
   can-search l = (nodesKept ks, ds, t, laidKept ks [], rest, standing, omega (arith, s .room .weight, s .holds .counted))
 
   module _ (ctx : Context) {nodes′ : List ℕ} {r : Searched} (e : SearchesFrom ctx false nodes nodes′ records starts low (p .many) (p .start) (p .used) r) (above : List Statement) (kind : DeclarationKind) where
@@ -197,8 +188,8 @@ module _ {file : List ℕ} {h : Header} {nodes records starts statements : List 
         let c = s .comes in
         let m = s .room in
         let l = from-declarators ctx above kind false ds t in
-        let a = nodes-total ds in
-        let a′ = nodes-total (w .left) in
+        let a = nodes-in ds in
+        let a′ = nodes-in (w .left) in
         let (x, y) = both (bareDeclarators (w .left)) (bareNames (w .target)) (f .names) in (
           rest′,
           record {

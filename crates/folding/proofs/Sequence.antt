@@ -20,7 +20,7 @@ use Rattle.folding.specs.declared.progress.Progress.{Progress}
 use Rattle.folding.specs.State.{Long, RecordRow}
 use Rattle.folding.specs.Folds.{Taking, CanFold, Folds, Accepted, FoldsAll}
 use Rattle.folding.proofs.Pushes.{first-record, next-records}
-use Rattle.folding.proofs.Beginning.{atStart, taking-all, statements-coming, statements-number}
+use Rattle.folding.proofs.Beginning.{atStart, taking-all, statements-coming, statements-are}
 use Rattle.folding.proofs.Result.{trees-laid, nodes-counted, declarators-counted, statements-counted, declarators-printed, statements-printed}
 
 module _ (file : List ℕ) (h : Header) where
@@ -51,7 +51,7 @@ module _ (file : List ℕ) (h : Header) where
     record {
       taking = subst (λ (x : Header). Taking file x nodes records starts statements atStart [] (read file .statements) nodes []) (sym eh) (taking-all file room e nodes records starts statements);
       coming = subst (λ (x : Header). RecordRow statementAt file (statementsStart x) 0 (statementRecords (read file .statements))) (sym eh) (statements-coming file room e);
-      many = omega (arith, statements-number file room e, et, ap (λ (x : Header). x .statements) eh);
+      many = omega (arith, statements-are file room e, et, ap (λ (x : Header). x .statements) eh);
       result-is = refl;
       folded = omega arith;
     },
@@ -92,7 +92,7 @@ module _ (file : List ℕ) (h : Header) where
           )
 
     -- there is none
-    pub ordered-ends : total ≤ i → Long nodes records starts statements → Bytes records → Bytes statements → SomeOrdered nodes records starts statements p i total
+    pub ordered-ends : total ≤ i → Long h nodes records starts statements → Bytes records → Bytes statements → SomeOrdered nodes records starts statements p i total
         → FoldsAll file nodes records statements (record { used = p .used; many = p .many; count = p .count; folds = p .folds })
     unfolding foldFile foldedFile withStatements foldStatements pure laidDeclarators laidInitializer nodesIn nodesOf
     ordered-ends l (l₁, l₂, l₃, l₄) small small′ (ks, st ∷ ss, rest, before, o) = absurd (omega (arith, o .many))

@@ -147,5 +147,5 @@ module _ {file : List ℕ} {h : Header} {nodes records starts statements : List 
 
 -- a declarator that is to be pushed has room
 pub push-room : {file : List ℕ} {h : Header} {nodes records starts statements : List ℕ} {low : ℕ} {p : Progress} {ks : List Kept} {done : List Declarator} {i : Initializer} {ts : Trees} {x : DeclaratorRecord} {coming : List DeclaratorRecord} {left : ℕ} {rest : List ℕ} {before : List NodeRecord}
-    → State file h nodes records starts statements low p ks done i ts (x ∷ coming) left rest before → (p .many + 1 ≤ 500) × (p .declarator < 65536)
+    → State file h nodes records starts statements low p ks done i ts (x ∷ coming) left rest before → (p .many + 1 ≤ h .declarators) × (p .declarator < 65536)
 push-room s = (omega (arith, s .room .declared), omega (arith, s .comes .few))

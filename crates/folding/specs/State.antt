@@ -18,10 +18,14 @@ use Rattle.search.specs.KeptStatements.{laidKept, nodesKept, declaratorsKept, b
 use Rattle.load.specs.Load.{FileRow}
 use Rattle.folding.specs.declared.progress.Progress.{Progress}
 
--- room for the limits of document 01: 3000 nodes, 500 declarators, 500 statements
-abbrev pub Long : List ℕ → List ℕ → List ℕ → List ℕ → Type 0
-Long nodes records starts statements =
-    (48000 ≤ length nodes) × (2000 ≤ length records) × (500 ≤ length starts) × (2000 ≤ length statements)
+-- the nodes that a fold of the file may need
+abbrev pub mostNodes : Header → ℕ
+mostNodes h = h .nodes + 2 * h .declarators
+
+-- room for what the file has
+abbrev pub Long : Header → List ℕ → List ℕ → List ℕ → List ℕ → Type 0
+Long h nodes records starts statements =
+    (16 * mostNodes h ≤ length nodes) × (4 * h .declarators ≤ length records) × (h .declarators ≤ length starts) × (4 * h .statements ≤ length statements)
 
 -- The tables hold statements that are kept, the last first; behind them the declarators of the declaration under way, the
 -- last first, the first of which has number `low`; and the tree of one more, if it has one.
@@ -50,13 +54,13 @@ pub record Coming (file : List ℕ) (h : Header) (p : Progress) (ts : Trees) (ds
   pub few : p .declarator + length ds ≤ 65535
   pub names : allBareNames ts ≡ true
 
--- they and what is kept are within the limits: a fold takes a declarator and adds at most one node
-pub record Room (p : Progress) (nodes declarators statements : ℕ) : Type 0 where
-  pub weight : p .used + p .many + nodes + declarators ≤ 3000
-  pub declared : p .folds + p .many + declarators ≤ 500
-  pub stated : p .count + statements ≤ 500
+-- they and what is kept are no more than the file has: a fold takes a declarator and adds at most one node
+pub record Room (h : Header) (p : Progress) (nodes declarators statements : ℕ) : Type 0 where
+  pub weight : p .used + p .many + nodes + declarators ≤ mostNodes h
+  pub declared : p .folds + p .many + declarators ≤ h .declarators
+  pub stated : p .count + statements ≤ h .statements
 
 pub record State (file : List ℕ) (h : Header) (nodes records starts statements : List ℕ) (low : ℕ) (p : Progress) (ks : List Kept) (ds : List Declarator) (i : Initializer) (ts : Trees) (coming : List DeclaratorRecord) (left : ℕ) (rest : List ℕ) (before : List NodeRecord) : Type 0 where
   pub holds : Holds nodes records starts statements low p ks ds i rest
   pub comes : Coming file h p ts coming before
-  pub room : Room p (sizes ts) (length coming) left
+  pub room : Room h p (sizes ts) (length coming) left

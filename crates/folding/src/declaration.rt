@@ -8,12 +8,12 @@ ghost use Rattle.walk.specs.Context.{contextOf};
 ghost use Rattle.folding.specs.State.{Long};
 ghost use Rattle.folding.specs.Declarators.{CanTakeFirst, TakenFirst};
 ghost use Rattle.folding.specs.Folds.{CanFold, Folds};
-use crate::later::substitute_single_use_symbol_within_declaration;
 use crate::next::next_declarator;
 use crate::next::substitute_in_next_tree;
 use crate::progress::Progress;
 use crate::push::push_declarator;
 use crate::push::push_statement;
+use crate::within_declaration::substitute_single_use_symbol_within_declaration;
 use declarators::unsearched::is_unsearched;
 use declarators::unsearched::is_using;
 use records::layout::Header;
@@ -31,7 +31,7 @@ fn fold_first_declarator(
 ) -> Progress
     requires { ⌜ h ≡ headerOf (now file) ⌝ }
     requires { ⌜ length (now file) ≡ fileLength h ⌝ }
-    requires { ⌜ Long (now nodes) (now declarators) (now starts) (now statements) ⌝ }
+    requires { ⌜ Long h (now nodes) (now declarators) (now starts) (now statements) ⌝ }
     requires { ⌜ CanTakeFirst (now file) h (now nodes) (now declarators) (now starts) (now statements) p ⌝ }
     ensures { λ r. ⌜ TakenFirst (contextOf (read (now (file .entry)))) (now (file .entry)) h (now (nodes .entry)) (now (nodes .exit)) (now (declarators .entry)) (now (declarators .exit)) (now (starts .entry)) (now (starts .exit)) (now (statements .entry)) (now (statements .exit)) p r ⌝ }
 {
@@ -56,7 +56,7 @@ pub(crate) fn handle_variable_declaration(
 ) -> Progress
     requires { ⌜ h ≡ headerOf (now file) ⌝ }
     requires { ⌜ length (now file) ≡ fileLength h ⌝ }
-    requires { ⌜ Long (now nodes) (now declarators) (now starts) (now statements) ⌝ }
+    requires { ⌜ Long h (now nodes) (now declarators) (now starts) (now statements) ⌝ }
     requires { ⌜ CanFold (now file) h (now nodes) (now declarators) (now starts) (now statements) s p ⌝ }
     requires { ⌜ s .kind < 5 ⌝ }
     ensures { λ r. ⌜ Folds (contextOf (read (now (file .entry)))) (now (file .entry)) h (now (nodes .entry)) (now (nodes .exit)) (now (declarators .entry)) (now (declarators .exit)) (now (starts .entry)) (now (starts .exit)) (now (statements .entry)) (now (statements .exit)) s p r ⌝ }

@@ -31,7 +31,7 @@ pub fn fold_statements(
     requires { ⌜ h ≡ headerOf (now file) ⌝ }
     requires { ⌜ length (now file) ≡ fileLength h ⌝ }
     requires { ⌜ Accepted (now file) ⌝ }
-    requires { ⌜ Long (now nodes) (now declarators) (now starts) (now statements) ⌝ }
+    requires { ⌜ Long h (now nodes) (now declarators) (now starts) (now statements) ⌝ }
     ensures { λ r. ⌜ FoldsAll (now (file .entry)) (now (nodes .exit)) (now (declarators .exit)) (now (statements .exit)) r ⌝ }
 {
     let parts = part_offsets(h);

@@ -1,8 +1,8 @@
 // The statements of a file, taken in order over lent tables: each tree is searched from what is kept before it.
 pub mod declaration;
 pub mod in_order;
-pub mod later;
 pub mod next;
 pub mod progress;
 pub mod push;
 pub mod statement;
+pub mod within_declaration;

@@ -1,4 +1,4 @@
-// The next declarator of the file; its next tree, behind the nodes that are in use, searched from the statements that are kept.
+// The next declarator and the next tree of the file.
 ghost use mathlib.Core.Path.{_≡_};
 ghost use Prim.Native.Nat.{_+_, _*_, _≤_};
 ghost use lib.ListN.{length};
@@ -15,7 +15,6 @@ use records::layout::Header;
 use records::layout::declarator_at;
 use search::in_statement::substitute_single_use_symbol_in_statement;
 
-// The next declarator of the file.
 pub(crate) fn next_declarator(file: &[u8], h: Header, p: Progress) -> DeclaratorRecord
     requires { ⌜ declaratorsStart h + 4 * p .declarator + 4 ≤ length (now file) ⌝ }
     ensures { λ r. ⌜ r ≡ declaratorAt (now (file .entry)) (declaratorsStart h + 4 * p .declarator) ⌝ }
@@ -24,7 +23,7 @@ pub(crate) fn next_declarator(file: &[u8], h: Header, p: Progress) -> Declarator
     declarator_at(file, parts[4] + 4 * p.declarator)
 }
 
-// Loads it.
+// Loads the next tree of the file behind the nodes that are in use.
 pub(crate) fn load_next(file: &[u8], h: Header, nodes: &mut [u8], p: Progress) -> Progress
     requires { ⌜ HasTree (now file) h (now nodes) p ⌝ }
     ensures { λ r. ⌜ Loaded (now (file .entry)) h (now (nodes .entry)) (now (nodes .exit)) p r ⌝ }
@@ -42,7 +41,7 @@ pub(crate) fn load_next(file: &[u8], h: Header, nodes: &mut [u8], p: Progress) -
     }
 }
 
-// Loads it, and searches it.
+// Loads that tree, and searches it from the statements that are kept.
 pub(crate) fn substitute_in_next_tree(
     file: &[u8],
     h: Header,
@@ -54,7 +53,7 @@ pub(crate) fn substitute_in_next_tree(
 ) -> Progress
     requires { ⌜ h ≡ headerOf (now file) ⌝ }
     requires { ⌜ length (now file) ≡ fileLength h ⌝ }
-    requires { ⌜ Long (now nodes) (now declarators) (now starts) (now statements) ⌝ }
+    requires { ⌜ Long h (now nodes) (now declarators) (now starts) (now statements) ⌝ }
     requires { ⌜ CanTakeNext (now file) h (now nodes) (now declarators) (now starts) (now statements) p ⌝ }
     ensures { λ r. ⌜ SearchedFromStatements (contextOf (read (now (file .entry)))) (now (file .entry)) h (now (nodes .entry)) (now (nodes .exit)) (now (declarators .entry)) (now (starts .entry)) (now (statements .entry)) (now (statements .exit)) p r ⌝ }
 {

@@ -25,7 +25,7 @@ fn handle_expression_statement(
 ) -> Progress
     requires { ⌜ h ≡ headerOf (now file) ⌝ }
     requires { ⌜ length (now file) ≡ fileLength h ⌝ }
-    requires { ⌜ Long (now nodes) (now declarators) (now starts) (now statements) ⌝ }
+    requires { ⌜ Long h (now nodes) (now declarators) (now starts) (now statements) ⌝ }
     requires { ⌜ CanFold (now file) h (now nodes) (now declarators) (now starts) (now statements) s p ⌝ }
     requires { ⌜ s .kind ≡ 5 ⌝ }
     ensures { λ r. ⌜ Folds (contextOf (read (now (file .entry)))) (now (file .entry)) h (now (nodes .entry)) (now (nodes .exit)) (now (declarators .entry)) (now (declarators .entry)) (now (starts .entry)) (now (starts .entry)) (now (statements .entry)) (now (statements .exit)) s p r ⌝ }
@@ -46,7 +46,7 @@ pub(crate) fn fold_statement(
 ) -> Progress
     requires { ⌜ h ≡ headerOf (now file) ⌝ }
     requires { ⌜ length (now file) ≡ fileLength h ⌝ }
-    requires { ⌜ Long (now nodes) (now declarators) (now starts) (now statements) ⌝ }
+    requires { ⌜ Long h (now nodes) (now declarators) (now starts) (now statements) ⌝ }
     requires { ⌜ CanFold (now file) h (now nodes) (now declarators) (now starts) (now statements) s p ⌝ }
     ensures { λ r. ⌜ Folds (contextOf (read (now (file .entry)))) (now (file .entry)) h (now (nodes .entry)) (now (nodes .exit)) (now (declarators .entry)) (now (declarators .exit)) (now (starts .entry)) (now (starts .exit)) (now (statements .entry)) (now (statements .exit)) s p r ⌝ }
 {

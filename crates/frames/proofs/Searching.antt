@@ -86,7 +86,7 @@ records-of-list d xs =
     ext-getD d (recordsFrom (λ i. getD xs i d) 1 (length xs) 0) xs long (λ i h.
     let at : 0 + 1 * i ≡ i = omega arith in record-at (λ k. getD xs k d) 1 (length xs) i 0 d (omega (arith, h, long)) ∙ ap (λ (k : ℕ). getD xs k d) at)
 
--- ---- the search over a list, from its last element
+-- The search over a list, from its last element.
 abbrev pub noFrame : Frame
 noFrame = record { scope = 0; zero = 0; initialised = 0 }
 

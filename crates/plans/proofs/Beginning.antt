@@ -10,6 +10,7 @@ use Rattle.records.specs.Record.{nodeAt}
 use Rattle.records.specs.Tree.{Node, Tree, Trees, none, more, count, size, sizes, recordOf, nodeOf}
 use Rattle.records.specs.File.{firstTree, one}
 use Rattle.records.specs.declared.layout.NodeRecord.{NodeRecord}
+use Rattle.records.proofs.Tests.{clash}
 use Rattle.table.specs.Table.{workBytes}
 use Rattle.table.specs.Laid.{laid, laids}
 use Rattle.table.proofs.Laid.{first, beyond, inside}
@@ -29,7 +30,6 @@ use Rattle.plans.specs.Plans.{KeepsIndirect, PlansFor}
 use Rattle.plans.specs.Passing.{stopsIn}
 use Rattle.plans.specs.Child.{FirstChild}
 use Rattle.plans.specs.Begins.{StopsAt, BeginsAt, planBehind}
-use Rattle.plans.proofs.Planning.{clash}
 use Rattle.plans.proofs.Children.{node-is, children-are}
 use Rattle.plans.proofs.Behind.{all-bare, behind-none, behind-first}
 
@@ -84,8 +84,8 @@ no-tag n c e = by (is 24 n) refl
     by false q = q
 
 -- The search of a node that is no assignment begins at its first child.
-module _ (ctx : Context) {table : List ℕ} {at : ℕ} {n : NodeRecord} (e : n ≡ nodeAt table (16 * at)) {s : Sought} {g : Begun} (sh : shaped (g .shape) ≡ shape (nodeOf n)) where
-  pub begins-first : isAssignment (g .shape) ≡ false → (child : NodeRecord) → FirstChild table at child → PlansFor (g .shape) n child s (g .plan)
+module _ (ctx : Context) {table : List ℕ} {at : ℕ} {n : NodeRecord} (e : n ≡ nodeAt table (16 * at)) {s : Sought} {g : Begun} (x : Shape) (sh : shaped x ≡ shape (nodeOf n)) where
+  pub begins-first : isAssignment x ≡ false → (child : NodeRecord) → FirstChild table at child → PlansFor x n child s (g .plan)
       → KeepsIndirect n child s (g .indirect) → g .next .0 ≡ at + 1 → g .left ≡ n .children → g .effect ≡ false → g .stops ≡ false → BeginsAt ctx table at s g
   begins-first a child f p k nx l ef st R d pre m kids rest h =
       let q = f pre m kids rest h in
@@ -94,8 +94,7 @@ module _ (ctx : Context) {table : List ℕ} {at : ℕ} {n : NodeRecord} (e : n �
         kids,
         pre ++ workBytes (recordOf m (count kids)),
         record {
-          shape-is = sh ∙ ap shape (sym (node-is e h));
-          stops-is = st ∙ rw (node-is e h, ← sh) (no-target ctx R kids (g .shape) a);
+          stops-is = st ∙ rw (node-is e h, ← sh) (no-target ctx R kids x a);
           indirect-is = rw (node-is e h) (k R d kids q);
           later = omega (arith, nx);
           here = rw nx (inside h);
@@ -153,18 +152,17 @@ first-of-many zero o z = omega (arith, o)
 first-of-many (suc k) {many} o z = omega (arith, one-of (suc k) many o k refl, z)
 
 -- The search of an assignment begins behind its target.
-module _ (ctx : Context) {table : List ℕ} {at : ℕ} {n : NodeRecord} (e : n ≡ nodeAt table (16 * at)) {s : Sought} {g : Begun} (sh : shaped (g .shape) ≡ shape (nodeOf n)) (a : isAssignment (g .shape) ≡ true) {many : ℕ} (o : many ≡ one (not (eqb (n .children) 0))) (p : Passes table (at + 1) many (g .next .0) (g .effect)) (c : Bool) (k : c ≡ isCompound (g .shape)) (w : StopsAt ctx table (at + 1) many s c (g .effect) (g .stops)) (b : planned (g .plan) ≡ planBehind (g .stops)) (l : g .left ≡ n .children - many) (i : g .indirect ≡ false) where
+module _ (ctx : Context) {table : List ℕ} {at : ℕ} {n : NodeRecord} (e : n ≡ nodeAt table (16 * at)) {s : Sought} {g : Begun} (x : Shape) (sh : shaped x ≡ shape (nodeOf n)) (a : isAssignment x ≡ true) {many : ℕ} (o : many ≡ one (not (eqb (n .children) 0))) (p : Passes table (at + 1) many (g .next .0) (g .effect)) (c : Bool) (k : c ≡ isCompound x) (w : StopsAt ctx table (at + 1) many s c (g .effect) (g .stops)) (b : planned (g .plan) ≡ planBehind (g .stops)) (l : g .left ≡ n .children - many) (i : g .indirect ≡ false) where
   pub begins-behind : BeginsAt ctx table at s g
   unfolding count sizes size mayHaveSideEffects anyHasSideEffects hasEffect firstTree substituteInChildren looksInChildren
   begins-behind R d pre m none rest h =
       let none-many : many ≡ 0 = o ∙ rw (children-are e h) refl in
-      let sm : shape m ≡ assignment c = rw (node-is e h, k) (sym sh ∙ assigns (g .shape) a) in
+      let sm : shape m ≡ assignment c = rw (node-is e h, k) (sym sh ∙ assigns x a) in
       let over = p _ none rest (inside h) (sym none-many) in
       let nx : g .next .0 ≡ at + 1 = omega (arith, over .0) in (
         none,
         pre ++ workBytes (recordOf m 0),
         record {
-          shape-is = sh ∙ ap shape (sym (node-is e h));
           stops-is = w R d _ none rest (inside h) (sym none-many) (over .1) ∙ stops-assigned ctx R m c sm none;
           indirect-is = i ∙ not-indirect ctx R m c sm none (s .name .0);
           later = omega (arith, nx);
@@ -177,14 +175,13 @@ module _ (ctx : Context) {table : List ℕ} {at : ℕ} {n : NodeRecord} (e : n �
       )
   begins-behind R d pre m (more t ts) rest h =
       let one-many : many ≡ 1 = one-of (n .children) many o (count ts) (children-are e h) in
-      let sm : shape m ≡ assignment c = rw (node-is e h, k) (sym sh ∙ assigns (g .shape) a) in
+      let sm : shape m ≡ assignment c = rw (node-is e h, k) (sym sh ∙ assigns x a) in
       let over = passes-tree (rw one-many at p) (first (inside h)) in
       let st = w R d _ (more t none) (laids ts rest) (first (inside h)) (sym one-many) (over .1) in
       let planned-so = plan-assigned ctx R m c sm (more t ts) (s .name .0) (g .stops) st in (
         ts,
         (pre ++ workBytes (recordOf m (count (more t ts)))) ++ laid t [],
         record {
-          shape-is = sh ∙ ap shape (sym (node-is e h));
           stops-is = st ∙ stops-assigned ctx R m c sm (more t ts);
           indirect-is = i ∙ not-indirect ctx R m c sm (more t ts) (s .name .0);
           later = omega (arith, over .0);

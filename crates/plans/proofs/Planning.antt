@@ -1,6 +1,5 @@
 -- Plans: the code's tests and the rules'.
 use Prim.Native.Nat.{ℕ}
-use native.Mathlib.Omega.{arith}
 use mathlib.Core.Bool.{Bool, true, false, cond, _&&_, _||_, not}
 use mathlib.Core.Path.{_≡_, refl, sym, ap, _∙_}
 use lib.Dec.{eqb}
@@ -9,6 +8,7 @@ use Rattle.records.specs.Tree.{Node, Tree, Trees, nodeOf}
 use Rattle.records.specs.File.{firstTree}
 use Rattle.records.specs.Place.{root}
 use Rattle.records.specs.declared.layout.NodeRecord.{NodeRecord}
+use Rattle.records.proofs.Tests.{clash}
 use Rattle.walk.specs.Context.{Context}
 use Rattle.walk.specs.Shape.{is, isMemberExpression, Choice, never, skips, cuts, picks, Shape as RuleShape, assignment, steps}
 use Rattle.walk.specs.Effect.{mayHaveSideEffects}
@@ -19,9 +19,6 @@ use Rattle.plans.specs.declared.sought.Sought.{Sought}
 use Rattle.plans.specs.Shapes.{shaped, planned, isAssignment}
 use Rattle.plans.specs.Described.{Describes}
 use Rattle.plans.specs.Plans.{propertyPlan, stepsPlan}
-
-pub clash : {A : Type 0} (b : Bool) → b ≡ false → b ≡ true → A
-clash b e g = absurd (let z : _≡_ {A = ℕ} 0 1 = cc in omega arith)
 
 module _ (n child : NodeRecord) (s : Sought) (replacement : Tree) (d : Describes s replacement) (kids : Trees) (q : root (firstTree kids) ≡ nodeOf child) where
   pub callee-kept : ((eqb (n .kind) 14 || eqb (n .kind) 15) && s .«member_or_chain» && eqb (child .kind) 4) ≡ keepsCallee replacement (nodeOf n) kids

@@ -15,7 +15,7 @@ use Rattle.walk.specs.Looks.{looksInChildren}
 use Rattle.plans.specs.declared.sought.Sought.{Sought}
 use Rattle.plans.specs.declared.begin.Begun.{Begun}
 use Rattle.plans.specs.declared.walked.Walked.{Walked}
-use Rattle.plans.specs.Shapes.{shaped, planned}
+use Rattle.plans.specs.Shapes.{planned}
 use Rattle.plans.specs.Described.{Describes}
 use Rattle.plans.specs.Passing.{stopsIn}
 use Rattle.plans.specs.Search.{allBareNames, Did}
@@ -42,7 +42,6 @@ pub record Behind (effect : Bool) (r q : Walked) : Type 0 where
 -- The children `left`, from where the search begins on: what the search of them does is, with the effect of what was passed
 -- before, what the search of all children does.
 pub record Begins (ctx : Context) (table : List ℕ) (at : ℕ) (s : Sought) (g : Begun) (replacement : Tree) (pre : List ℕ) (n : Node) (kids : Trees) (rest : List ℕ) (left : Trees) (before : List ℕ) : Type 0 where
-  pub shape-is : shaped (g .shape) ≡ shape n
   pub stops-is : g .stops ≡ stopsIn ctx replacement (shape n) kids
   pub indirect-is : g .indirect ≡ keepsIndirect (s .name .0) replacement n kids
   pub later : at + 1 ≤ g .next .0

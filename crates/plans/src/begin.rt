@@ -29,14 +29,13 @@ use records::number::one;
 use records::number::size;
 use table::work_node;
 
-// The node's shape; the place of the first child that isn't passed before the search, how many there are from it on, and the
-// plan for them; whether one that is passed has an effect, and whether it ends the search; whether the first child is a tag
+// The place of the first child that isn't passed before the search, how many there are from it on, and the plan for them;
+// whether one that is passed has an effect, and whether it ends the search; whether the first child is a tag
 // that is the name, and must stay indirect.
 pub struct Begun {
-    pub shape: Shape,
-    pub plan: Plan,
     pub next: NodeId,
     pub left: usize,
+    pub plan: Plan,
     pub effect: bool,
     pub stops: bool,
     pub indirect: bool,
@@ -108,7 +107,6 @@ fn begin_assignment(
     let stops = stops_at_target(file, h, nodes, first, many, s, compound, target.effect);
     let next = target.next;
     Begun {
-        shape,
         plan: plan_behind(stops),
         next,
         left: size(n.children) - many,
@@ -131,7 +129,6 @@ pub fn begin(file: &[u8], h: Header, nodes: &[u8], at: NodeId, n: NodeRecord, s:
     }
     let first = first_child(nodes, at, n);
     Begun {
-        shape,
         plan: plan_of(shape, n, first, s),
         next: NodeId(at.0 + 1),
         left: size(n.children),

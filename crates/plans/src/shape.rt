@@ -69,7 +69,6 @@ fn shape_with_children(n: NodeRecord) -> Shape
     Shape::Steps
 }
 
-// The shape of a node.
 pub fn shape_of(n: NodeRecord) -> Shape
     ensures { λ r. ⌜ shaped r ≡ shape (nodeOf n) ⌝ }
 {

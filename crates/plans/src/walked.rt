@@ -10,15 +10,15 @@ pub enum Answer {
     Passed,
 }
 
-// The answer, and where the trees end (unless replaced), whether they have an effect (where passed), where the name stands and
-// whether it is a tag that stays indirect (where replaced), and the looks.
+// Where the trees end (unless replaced), where the name stands (where replaced), the looks, the answer, whether the trees have
+// an effect (where passed), and whether the name is a tag that stays indirect (where replaced).
 pub struct Walked {
-    pub answer: Answer,
     pub next: NodeId,
-    pub effect: bool,
     pub place: NodeId,
-    pub indirect: bool,
     pub looks: usize,
+    pub answer: Answer,
+    pub effect: bool,
+    pub indirect: bool,
 }
 
 pub fn is_passed(a: Answer) -> bool

@@ -14,6 +14,7 @@ use Rattle.records.specs.File.{firstTree}
 use Rattle.records.specs.Place.{loose, looseFirst}
 use Rattle.records.specs.Count.{usesIn}
 use Rattle.records.specs.declared.layout.NameFacts.{NameFacts}
+use Rattle.records.proofs.Tests.{clash, neither}
 use Rattle.walk.specs.Context.{contextOf}
 use Rattle.walk.specs.Unsettled.{unsettled}
 use Rattle.walk.specs.This.{thisBlocks as thisBlocksAt}
@@ -27,7 +28,7 @@ use Rattle.runs.specs.Run.{all, takes, then, resolved, isRead, gathered, inTurn
 use Rattle.runs.specs.Settled.{settled, thisBlocks}
 use Rattle.runs.specs.Shapes.{someIn, someOf}
 use Rattle.runs.specs.Facts.{aims, throughBy, through, thisUnblocked, GivesSame}
-use Rattle.preservation.proofs.Tests.{or-none, by-or, clash, and-off, or-left, or-right}
+use Rattle.preservation.proofs.Tests.{by-or, and-off, or-left, or-right}
 use Rattle.preservation.proofs.Tables.{marked-cleared, name-form}
 use Rattle.preservation.proofs.Ends.{Ends, gives, cuts, halts, ends-any, ends-map, ends-and, stepOf}
 use Rattle.preservation.proofs.Uses.{reads, allReads, targets, allTargets, off-read, off-target, off-through}
@@ -93,22 +94,22 @@ module _ {Value Rest : Type 0} (σ : Setting Value Rest) where
 
   quiet-kids : (n : Node) (ts : Trees) → Quiet (node n ts) → AllQuiet ts
   unfolding usesIn mayHaveSideEffects
-  quiet-kids n ts (a, b, c, d, e) = (well-node names n ts a .1, omega arith, omega arith, or-none (hasEffect n) (anyHasSideEffects ts) d .1, known-kids n ts e)
+  quiet-kids n ts (a, b, c, d, e) = (well-node names n ts a .1, omega arith, omega arith, neither (hasEffect n) (anyHasSideEffects ts) d .1, known-kids n ts e)
 
   quiet-head : (t : Tree) (ts : Trees) → AllQuiet (more t ts) → Quiet t
   unfolding usesIn mayHaveSideEffects
-  quiet-head t ts (a, b, c, d, e) = (well-more names t ts a .0, omega arith, omega arith, or-none (mayHaveSideEffects t) (anyHasSideEffects ts) d .0, known-head t ts e)
+  quiet-head t ts (a, b, c, d, e) = (well-more names t ts a .0, omega arith, omega arith, neither (mayHaveSideEffects t) (anyHasSideEffects ts) d .0, known-head t ts e)
 
   quiet-tail : (t : Tree) (ts : Trees) → AllQuiet (more t ts) → AllQuiet ts
   unfolding usesIn mayHaveSideEffects
-  quiet-tail t ts (a, b, c, d, e) = (well-more names t ts a .1, omega arith, omega arith, or-none (mayHaveSideEffects t) (anyHasSideEffects ts) d .1, known-tail t ts e)
+  quiet-tail t ts (a, b, c, d, e) = (well-more names t ts a .1, omega arith, omega arith, neither (mayHaveSideEffects t) (anyHasSideEffects ts) d .1, known-tail t ts e)
 
   quiet-marked : (n : Node) (ts : Trees) → Quiet (node n ts) → isMarked (cleared n) ≡ false
   unfolding mayHaveSideEffects hasEffect isMarked cleared
   quiet-marked n ts (a, b, c, d, e) =
-      let h = or-none (hasEffect n) (anyHasSideEffects ts) d .0 in
-      let i = or-none (marked (n .flags) || is 6 n || is 7 n || is 8 n) (is 20 n) h .0 in
-      rw (marked-cleared n) (or-none (marked (n .flags) || is 6 n || is 7 n) (is 8 n) i .0)
+      let h = neither (hasEffect n) (anyHasSideEffects ts) d .0 in
+      let i = neither (marked (n .flags) || is 6 n || is 7 n || is 8 n) (is 20 n) h .0 in
+      rw (marked-cleared n) (neither (marked (n .flags) || is 6 n || is 7 n) (is 8 n) i .0)
 
   quiet-other : (n : Node) (ts : Trees) → Quiet (node n ts) → Other σ (cleared n)
   quiet-other n ts (a, b, c, d, e) = (off-read v n ts b, off-target v n ts c)
@@ -214,7 +215,7 @@ module _ {Value Rest : Type 0} (σ : Setting Value Rest) where
   pair-why n none e c q h = absurd (omega arith)
   pair-why n (more t none) e c q h = absurd (omega arith)
   pair-why n (more t (more u none)) e c q h =
-      let (a, b) = or-none (memberPartBlocksReorder (contextOf file) t) (computedKeyBlocksReorder (contextOf file) u) h in
+      let (a, b) = neither (memberPartBlocksReorder (contextOf file) t) (computedKeyBlocksReorder (contextOf file) u) h in
       first-why n t (more u none) e (part-why t (quiet-head t (more u none) q) a) (one-why u (key-why u (quiet-head u none (quiet-tail t (more u none) q)) b))
   pair-why n (more t (more u (more w us))) e c q h = absurd (omega arith)
 
@@ -258,7 +259,7 @@ module _ {Value Rest : Type 0} (σ : Setting Value Rest) where
   unfolding loose
   not-optional n us k e g l =
       let y : (optional (n .flags) || looseFirst us) ≡ false = rw (eqb-true (n .kind) k e, g) at l in
-      or-none (optional (n .flags)) (looseFirst us) y .0
+      neither (optional (n .flags)) (looseFirst us) y .0
 
   form-10 : (n : Node) → is 10 n ≡ true → optional (n .flags) ≡ false → form (cleared n) ≡ stepping never
   unfolding form cleared

@@ -12,6 +12,7 @@ use Rattle.records.specs.Tree.{Node, Tree, Trees, node, none, more}
 use Rattle.records.specs.File.{firstTree}
 use Rattle.records.specs.Place.{root, isExpression, mayStand, placed}
 use Rattle.records.specs.declared.layout.NameFacts.{NameFacts}
+use Rattle.records.proofs.Tests.{clash, neither}
 use Rattle.walk.specs.Shape.{isMemberExpression}
 use Rattle.walk.specs.Substitute.{isMemberTag}
 use Rattle.runs.specs.Hand.{Beside, nothing, Given, firstOr}
@@ -20,7 +21,7 @@ use Rattle.runs.specs.Meaning.{Meaning}
 use Rattle.runs.specs.Form.{is, cleared, Form, form, constant, name, targetName, leaf, chain, property, importing, sequence, assignment, stepping, order, childless, isName, isChain, firstRole}
 use Rattle.runs.specs.State.{State, Out, gave}
 use Rattle.runs.specs.Run.{Turn, kept, caught, gathered, goesOn, own, beside, finished, runNode, run, runChildren}
-use Rattle.preservation.proofs.Tests.{or-none, by-or, clash}
+use Rattle.preservation.proofs.Tests.{by-or}
 use Rattle.preservation.proofs.Tables.{kindsOf, kinds}
 use Rattle.preservation.proofs.Ends.{Ends, gives, cuts, halts, ends-bind, ends-any, First}
 use Rattle.preservation.proofs.Kept.{under, stands}
@@ -129,8 +130,8 @@ module _ {Value Rest : Type 0} (names : List NameFacts) (m : Meaning Value Rest)
 
   link-call : (n : Node) → isLink (n .kind) ≡ true → isMemberExpression n ≡ false → is 14 n ≡ true
   link-call n e g =
-      let (a, b) = or-none (is 10 n || is 11 n) (is 12 n) g in
-      let (c, d) = or-none (is 10 n) (is 11 n) a in
+      let (a, b) = neither (is 10 n || is 11 n) (is 12 n) g in
+      let (c, d) = neither (is 10 n) (is 11 n) a in
       rw (c, d, b) at e
 
   under-13 : (flags kind : ℕ) → mayStand 13 flags 0 kind ≡ true → isLink kind ≡ true
@@ -161,8 +162,8 @@ module _ {Value Rest : Type 0} (names : List NameFacts) (m : Meaning Value Rest)
   pub bare-run : (t : Tree) → placed t ≡ true → isExpression (root t .kind) ≡ true → (eqb (root t .kind) 4 && isEval (flagsOf names (root t .label))) ≡ false → isMemberTag t ≡ false → (role : Role) (s : State Value Rest) → Bare (run names m t role s)
   unfolding isMemberTag
   bare-run (node n ts) p x e g role s =
-      let (a, b) = or-none (isMemberExpression n) (is 13 n && isMemberExpression (root (firstTree ts))) g in
-      let (c, d) = or-none (is 10 n || is 11 n) (is 12 n) a in
-      let (h, i) = or-none (is 10 n) (is 11 n) c in
+      let (a, b) = neither (isMemberExpression n) (is 13 n && isMemberExpression (root (firstTree ts))) g in
+      let (c, d) = neither (is 10 n || is 11 n) (is 12 n) a in
+      let (h, i) = neither (is 10 n) (is 11 n) c in
       bare-node n ts role s ((λ q. and-last (is 4 n) _ q e), expression-not (n .kind) 29 x refl refl, expression-not (n .kind) 30 x refl refl, h, i, d)
       (λ q. chain-first n ts (form (cleared n)) (cleared n) role s (chain-kind n q) p (and-last (is 13 n) _ (chain-kind n q) b))

@@ -8,13 +8,13 @@ use lib.Dec.{eqb}
 use Rattle.records.specs.Tree.{Node, Tree, Trees, more}
 use Rattle.records.specs.Count.{usesIn}
 use Rattle.records.specs.declared.layout.NameFacts.{NameFacts}
+use Rattle.records.proofs.Tests.{clash}
 use Rattle.walk.specs.Substitute.{Answer, replaced, stopped, passed, Plan, all as every, first as leading, nothing as none-at-all, value as behind, test, branches, tag, next, asTag, inOrder, byPlan, preserveIndirectAccess}
 use Rattle.runs.specs.Hand.{Given}
 use Rattle.runs.specs.Step.{Role, value}
 use Rattle.runs.specs.Form.{is, Choice, never, logical, conditional, optionally, Form, choiceOf, firstRole}
 use Rattle.runs.specs.State.{State, Out, gave, cut, bind}
 use Rattle.runs.specs.Run.{Turn, all, skipped, second, third, kept, chosen, goesOn, run, runChildren, runOthers}
-use Rattle.preservation.proofs.Tests.{clash}
 use Rattle.preservation.proofs.Ends.{stepOf}
 use Rattle.preservation.proofs.Uses.{reads, allReads, targets, allTargets, Off, kept-off, first-off, off-through}
 use Rattle.preservation.proofs.Frame.{moved, shifted, gave-on, goesOn-on}

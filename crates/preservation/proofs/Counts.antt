@@ -9,9 +9,10 @@ use Rattle.records.specs.Limits.{noNumber}
 use Rattle.records.specs.Tree.{Node, Tree, Trees, node, none, more}
 use Rattle.records.specs.Place.{root, isExpression}
 use Rattle.records.specs.Count.{targetName, firstTarget, nameRead, usesIn, usesOf}
+use Rattle.records.proofs.Tests.{clash}
 use Rattle.walk.specs.Shape.{is, cleared}
 use Rattle.walk.specs.Substitute.{at, preserveIndirectAccess, isSpecificId}
-use Rattle.preservation.proofs.Tests.{by-or, clash}
+use Rattle.preservation.proofs.Tests.{by-or}
 use Rattle.preservation.proofs.At.{placedAt}
 use Rattle.preservation.proofs.Uses.{reads, allReads, targets, specific, specific-read}
 use Rattle.preservation.proofs.Turned.{Turned, same, here, apart, under, AllTurned, no-more, both}
@@ -20,6 +21,14 @@ use Rattle.preservation.proofs.Turned.{Turned, same, here, apart, under
 unfoldable pub times : ℕ → ℕ → ℕ
 times zero c = 0
 times (suc k) c = c + times k c
+
+pub no-times : (c : ℕ) → times 0 c ≡ 0
+unfolding times
+no-times c = refl
+
+pub one-time : (c : ℕ) → times 1 c ≡ c
+unfolding times
+one-time c = omega arith
 
 times-sum : (i j c : ℕ) → times (i + j) c ≡ times i c + times j c
 unfolding times

@@ -12,6 +12,7 @@ use Rattle.records.specs.Tree.{Tree}
 use Rattle.records.specs.Count.{readsOf, targetsOf}
 use Rattle.records.specs.File.{one, Statement, File, allTrees}
 use Rattle.records.specs.declared.layout.NameFacts.{NameFacts}
+use Rattle.records.proofs.Tests.{neither}
 use Rattle.walk.specs.Context.{Context, factsOf as factsIn}
 use Rattle.walk.specs.Effect.{isLiteralValue}
 use Rattle.statements.specs.Declarators.{endsSearch, isCatchVariable, isImplicitlyObservable, nameNeedsToBeKept}
@@ -19,7 +20,6 @@ use Rattle.runs.specs.Run.{resolved}
 use Rattle.runs.specs.Settled.{factsOf, settled, thisBlocks}
 use Rattle.runs.specs.Shapes.{declared, evalWhole}
 use Rattle.runs.specs.Facts.{thisUnblocked}
-use Rattle.preservation.proofs.Tests.{or-none}
 use Rattle.preservation.proofs.Uses.{reads, targets}
 use Rattle.preservation.proofs.Totals.{total, trees, declarations}
 use Rattle.preservation.proofs.Fit.{misfit}
@@ -57,11 +57,11 @@ pub searched-name : (ctx : Context) (lit : Bool) (name : ℕ) (r : Tree) → end
 unfolding endsSearch
 searched-name ctx lit name r e =
     let n : NameFacts = factsIn ctx name in
-    let (x₁, y₁) = or-none (eqb name noNumber || isCatchVariable (n .flags) || nameNeedsToBeKept ctx r || not (recorded (n .flags)) || isImplicitlyObservable (n .flags) || ltb 1 (n .reads) || ltb 0 (n .writes)) (lit && not (isLiteralValue false r)) e in
-    let (x₂, y₂) = or-none (eqb name noNumber || isCatchVariable (n .flags) || nameNeedsToBeKept ctx r || not (recorded (n .flags)) || isImplicitlyObservable (n .flags) || ltb 1 (n .reads)) (ltb 0 (n .writes)) x₁ in
-    let (x₃, y₃) = or-none (eqb name noNumber || isCatchVariable (n .flags) || nameNeedsToBeKept ctx r || not (recorded (n .flags)) || isImplicitlyObservable (n .flags)) (ltb 1 (n .reads)) x₂ in
-    let (x₄, y₄) = or-none (eqb name noNumber || isCatchVariable (n .flags) || nameNeedsToBeKept ctx r || not (recorded (n .flags))) (isImplicitlyObservable (n .flags)) x₃ in
-    let (x₅, y₅) = or-none (eqb name noNumber || isCatchVariable (n .flags) || nameNeedsToBeKept ctx r) (not (recorded (n .flags))) x₄ in
-    let (x₆, y₆) = or-none (eqb name noNumber || isCatchVariable (n .flags)) (nameNeedsToBeKept ctx r) x₅ in
-    let (x₇, y₇) = or-none (eqb name noNumber) (isCatchVariable (n .flags)) x₆ in
+    let (x₁, y₁) = neither (eqb name noNumber || isCatchVariable (n .flags) || nameNeedsToBeKept ctx r || not (recorded (n .flags)) || isImplicitlyObservable (n .flags) || ltb 1 (n .reads) || ltb 0 (n .writes)) (lit && not (isLiteralValue false r)) e in
+    let (x₂, y₂) = neither (eqb name noNumber || isCatchVariable (n .flags) || nameNeedsToBeKept ctx r || not (recorded (n .flags)) || isImplicitlyObservable (n .flags) || ltb 1 (n .reads)) (ltb 0 (n .writes)) x₁ in
+    let (x₃, y₃) = neither (eqb name noNumber || isCatchVariable (n .flags) || nameNeedsToBeKept ctx r || not (recorded (n .flags)) || isImplicitlyObservable (n .flags)) (ltb 1 (n .reads)) x₂ in
+    let (x₄, y₄) = neither (eqb name noNumber || isCatchVariable (n .flags) || nameNeedsToBeKept ctx r || not (recorded (n .flags))) (isImplicitlyObservable (n .flags)) x₃ in
+    let (x₅, y₅) = neither (eqb name noNumber || isCatchVariable (n .flags) || nameNeedsToBeKept ctx r) (not (recorded (n .flags))) x₄ in
+    let (x₆, y₆) = neither (eqb name noNumber || isCatchVariable (n .flags)) (nameNeedsToBeKept ctx r) x₅ in
+    let (x₇, y₇) = neither (eqb name noNumber) (isCatchVariable (n .flags)) x₆ in
     (x₇, not-false (recorded (n .flags)) y₅, ltb-false 1 (n .reads) y₃, ltb-false 0 (n .writes) y₂)

@@ -12,7 +12,7 @@ use Rattle.runs.specs.Facts.{thisUnblocked}
 use Rattle.preservation.proofs.Tests.{one-off, one-none, one-of}
 use Rattle.preservation.proofs.Uses.{reads, targets}
 use Rattle.preservation.proofs.Turned.{Turned, same, here, apart, under, AllTurned, no-more, both, stopped-turned}
-use Rattle.preservation.proofs.Counts.{times, turned-reads, turned-targets}
+use Rattle.preservation.proofs.Counts.{turned-reads, turned-targets, no-times}
 use Rattle.preservation.proofs.Moves.{StopAt, DropAt}
 use Rattle.preservation.proofs.Totals.{ofInitializer, declaring}
 use Rattle.preservation.proofs.Fine.{unblockedTrees, Fine, unblockedAt}
@@ -32,10 +32,6 @@ module _ {v : ℕ} {r : Tree} (x : Tree) where
     all-none : {k : ℕ} {ts us : Trees} → AllTurned v r k ts us → k ≡ 0 → AllTurned v x 0 ts us
     all-none (no-more e) z = no-more refl
     all-none (both i j e h g) z = both 0 0 refl (none-placed h (omega arith)) (all-none g (omega arith))
-
-pub no-times : (c : ℕ) → times 0 c ≡ 0
-unfolding times
-no-times c = refl
 
 -- a search that stopped
 module _ (f : File) (P Q : List Statement) (move : StopAt (contextOf f) P Q) (fine : Fine f P) where

@@ -8,8 +8,9 @@ use Rattle.records.specs.Tree.{Tree, Node, Trees, node}
 use Rattle.records.specs.Place.{root, isExpression, placed, loose}
 use Rattle.records.specs.File.{one, given}
 use Rattle.records.specs.declared.layout.NameFacts.{NameFacts}
+use Rattle.records.proofs.Tests.{both}
 use Rattle.runs.specs.Shapes.{evalWhole}
-use Rattle.preservation.proofs.Tests.{and-true, one-on, one-none, one-not}
+use Rattle.preservation.proofs.Tests.{one-on, one-none, one-not}
 use Rattle.preservation.proofs.WellMade.{wellMade}
 use Rattle.preservation.proofs.Remade.{well-turned}
 use Rattle.preservation.proofs.Places.{Place, declarator, statement, initializer}
@@ -29,9 +30,9 @@ misfit names t = one (not (fit names t))
 pub fit-parts : (names : List NameFacts) (t : Tree) → fit names t ≡ true → (placed t ≡ true) × (wellMade names t ≡ true) × (isExpression (root t .kind) ≡ true) × (loose t ≡ false)
 unfolding fit
 fit-parts names t e =
-    let (x, d) = and-true (placed t && wellMade names t && isExpression (root t .kind)) (not (loose t)) e in
-    let (y, c) = and-true (placed t && wellMade names t) (isExpression (root t .kind)) x in
-    let (a, b) = and-true (placed t) (wellMade names t) y in
+    let (x, d) = both (placed t && wellMade names t && isExpression (root t .kind)) (not (loose t)) e in
+    let (y, c) = both (placed t && wellMade names t) (isExpression (root t .kind)) x in
+    let (a, b) = both (placed t) (wellMade names t) y in
     (a, b, c, not-true (loose t) d)
 
 pub fit-whole : (names : List NameFacts) (t : Tree) → placed t ≡ true → wellMade names t ≡ true → isExpression (root t .kind) ≡ true → loose t ≡ false → fit names t ≡ true

@@ -32,7 +32,7 @@ use Rattle.preservation.proofs.Passing.{Put, drop}
 use Rattle.preservation.proofs.Aims.{unblocked, ThisKnown}
 use Rattle.preservation.proofs.Sound.{Asked}
 use Rattle.preservation.proofs.Turned.{Turned, replaced-turned}
-use Rattle.preservation.proofs.Counts.{times, turned-reads, turned-targets, found}
+use Rattle.preservation.proofs.Counts.{turned-reads, turned-targets, found, one-time}
 use Rattle.preservation.proofs.Places.{FreeBehind, fold-program}
 use Rattle.preservation.proofs.Moves.{FoldAt}
 use Rattle.preservation.proofs.Totals.{ofInitializer, there, there-declared, declarations, program-uses, declaring}
@@ -172,11 +172,6 @@ module _ (f : File) (P Q : List Statement) (φ : Fold) (move : FoldAt (contextOf
     pub fold-kept : FoldKeeps names m start φ → shifted (Put (φ .name) (m .undefined)) (runStatements names m P (begin start)) ≡ shifted (Put (φ .name) (m .undefined)) (runStatements names m Q (begin start))
     unfolding drop
     fold-kept keeps = kept-here keeps
-
-  -- The program behind the fold.
-  one-time : (c : ℕ) → times 1 c ≡ c
-  unfolding times
-  one-time c = omega arith
 
   fold-this : (b : Bool) → somewhere (unblockedAt f) t′ ≡ b → 1 ≤ unblockedTrees f Q → thisUnblocked f ≡ true
   fold-this true e h =

@@ -11,6 +11,7 @@ use Rattle.records.specs.Node.{isLink}
 use Rattle.records.specs.Tree.{Node, Tree, Trees, node, none, more}
 use Rattle.records.specs.Place.{root, mayStand, chains, loose, looseFirst, mayBeLoose, standUnder, placed, allPlaced}
 use Rattle.records.specs.declared.layout.NameFacts.{NameFacts}
+use Rattle.records.proofs.Tests.{clash, both, neither}
 use Rattle.walk.specs.Effect.{hasEffect, mayHaveSideEffects, anyHasSideEffects}
 use Rattle.runs.specs.Store.{Store}
 use Rattle.runs.specs.Hand.{Given}
@@ -20,7 +21,6 @@ use Rattle.runs.specs.Form.{is, cleared, isMarked, Choice, never, logical, cond
 use Rattle.runs.specs.State.{Log, State, Out, gave, cut, stop}
 use Rattle.runs.specs.Run.{Turn, all, skipped, second, third, takes, then, resolved, acted, caught, gathered, chosen, inTurn, stepped, queued, held, goesOn, own, finished, runNode, run, runChildren, runOthers}
 use Rattle.runs.specs.Facts.{through, isOfNode}
-use Rattle.preservation.proofs.Tests.{and-true, or-none, clash}
 use Rattle.preservation.proofs.Tables.{kindsOf, kinds, marked-cleared, link-cleared, name-form}
 use Rattle.preservation.proofs.Ends.{Ends, gives, halts, ends-bind, ends-cond, ends-map, First, stepOf, ends, ends-children}
 use Rattle.preservation.proofs.Uses.{targets, allTargets, Off, nothing-off, kept-off, first-off, off-target, off-through, aside-off, kids-targets, head-targets, tail-targets}
@@ -56,26 +56,26 @@ module _ {Value Rest : Type 0} (names : List NameFacts) (m : Meaning Value Rest)
   unmarked : (n : Node) → hasEffect n ≡ false → (isMarked (cleared n) ≡ false) × (is 8 (cleared n) ≡ false) × (is 20 (cleared n) ≡ false)
   unfolding hasEffect isMarked cleared
   unmarked n e =
-      let (a, b) = or-none (marked (n .flags) || is 6 n || is 7 n || is 8 n) (is 20 n) e in
-      let (c, d) = or-none (marked (n .flags) || is 6 n || is 7 n) (is 8 n) a in
+      let (a, b) = neither (marked (n .flags) || is 6 n || is 7 n || is 8 n) (is 20 n) e in
+      let (c, d) = neither (marked (n .flags) || is 6 n || is 7 n) (is 8 n) a in
       (rw (marked-cleared n) c, d, b)
 
   kids-still : (n : Node) (ts : Trees) → mayHaveSideEffects (node n ts) ≡ false → anyHasSideEffects ts ≡ false
   unfolding mayHaveSideEffects
-  kids-still n ts e = or-none (hasEffect n) (anyHasSideEffects ts) e .1
+  kids-still n ts e = neither (hasEffect n) (anyHasSideEffects ts) e .1
 
   head-still : (t : Tree) (ts : Trees) → anyHasSideEffects (more t ts) ≡ false → mayHaveSideEffects t ≡ false
   unfolding mayHaveSideEffects
-  head-still t ts e = or-none (mayHaveSideEffects t) (anyHasSideEffects ts) e .0
+  head-still t ts e = neither (mayHaveSideEffects t) (anyHasSideEffects ts) e .0
 
   tail-still : (t : Tree) (ts : Trees) → anyHasSideEffects (more t ts) ≡ false → anyHasSideEffects ts ≡ false
   unfolding mayHaveSideEffects
-  tail-still t ts e = or-none (mayHaveSideEffects t) (anyHasSideEffects ts) e .1
+  tail-still t ts e = neither (mayHaveSideEffects t) (anyHasSideEffects ts) e .1
 
   step-still : (n : Node) (ts : Trees) (role : Role) (hs : List (Given Value)) (s : State Value Rest) → mayHaveSideEffects (node n ts) ≡ false → First (λ b. Unit {0}) hs → s ≡ s₀ → Still (own names m (form (cleared n)) (cleared n) role (stepOf (cleared n) role hs) s)
   unfolding mayHaveSideEffects
   step-still n ts role hs s e b p =
-      let (x, y, z) = unmarked n (or-none (hasEffect n) (anyHasSideEffects ts) e .0) in
+      let (x, y, z) = unmarked n (neither (hasEffect n) (anyHasSideEffects ts) e .0) in
       own-still (form (cleared n)) (cleared n) role _ s (kinds (cleared n)) x y z p
 
   -- a tree without effects leaves the state as it is, and doesn't stop
@@ -151,17 +151,17 @@ module _ {Value Rest : Type 0} (names : List NameFacts) (m : Meaning Value Rest)
 -- what stands under a node
 pub under : (n : Node) (ts : Trees) → placed (node n ts) ≡ true → (standUnder n 0 ts ≡ true) × (allPlaced ts ≡ true)
 unfolding placed
-under n ts h = and-true (standUnder n 0 ts) (allPlaced ts) h
+under n ts h = both (standUnder n 0 ts) (allPlaced ts) h
 
 pub in-row : (t : Tree) (ts : Trees) → allPlaced (more t ts) ≡ true → (placed t ≡ true) × (allPlaced ts ≡ true)
 unfolding placed
-in-row t ts h = and-true (placed t) (allPlaced ts) h
+in-row t ts h = both (placed t) (allPlaced ts) h
 
 pub stands : (p : Node) (i : ℕ) (t : Tree) (ts : Trees) → standUnder p i (more t ts) ≡ true → (mayStand (p .kind) (p .flags) i (root t .kind) ≡ true) × ((not (loose t) || mayBeLoose (p .kind) i) ≡ true) × (standUnder p (i + 1) ts ≡ true)
 unfolding standUnder
 stands p i t ts h =
-    let (a, b) = and-true (mayStand (p .kind) (p .flags) i (root t .kind) && (not (loose t) || mayBeLoose (p .kind) i)) (standUnder p (i + 1) ts) h in
-    let (c, d) = and-true (mayStand (p .kind) (p .flags) i (root t .kind)) (not (loose t) || mayBeLoose (p .kind) i) a in
+    let (a, b) = both (mayStand (p .kind) (p .flags) i (root t .kind) && (not (loose t) || mayBeLoose (p .kind) i)) (standUnder p (i + 1) ts) h in
+    let (c, d) = both (mayStand (p .kind) (p .flags) i (root t .kind)) (not (loose t) || mayBeLoose (p .kind) i) a in
     (c, d, b)
 
 -- Chains.
@@ -285,7 +285,7 @@ module _ {Value Rest : Type 0} (names : List NameFacts) (m : Meaning Value Rest)
   next-tight : (p : Node) (i : ℕ) (t : Tree) (ts : Trees) → standUnder p (i + 1) (more t ts) ≡ true → allPlaced (more t ts) ≡ true → (placed t ≡ true) × (loose t ≡ false) × (standUnder p (i + 1 + 1) ts ≡ true) × (allPlaced ts ≡ true)
   unfolding placed mayBeLoose
   next-tight p i t ts h g =
-      let (a, b) = and-true (placed t) (allPlaced ts) g in
+      let (a, b) = both (placed t) (allPlaced ts) g in
       let (c, d, e) = stands p (i + 1) t ts h in
       (a, not-loose (loose t) (eqb (i + 1) 0) (chains (p .kind)) (ne-eqb (i + 1) 0 (λ q. omega arith)) d, e, b)
     where
@@ -297,7 +297,7 @@ module _ {Value Rest : Type 0} (names : List NameFacts) (m : Meaning Value Rest)
   after-first : (p : Node) (t : Tree) (ts : Trees) → standUnder p 0 (more t ts) ≡ true → allPlaced (more t ts) ≡ true → (placed t ≡ true) × (standUnder p (0 + 1) ts ≡ true) × (allPlaced ts ≡ true)
   unfolding placed
   after-first p t ts h g =
-      let (a, b) = and-true (placed t) (allPlaced ts) g in
+      let (a, b) = both (placed t) (allPlaced ts) g in
       (a, stands p 0 t ts h .2, b)
 
   firstly : (t : Tree) (ts : Trees) → looseFirst (more t ts) ≡ false → loose t ≡ false

@@ -6,6 +6,7 @@ use mathlib.Core.List.{List, [], _∷_, _++_, map, reverse, reverse-cons, revers
 use mathlib.Core.Path.{_≡_, refl, sym, ap, _∙_, subst}
 use Rattle.records.specs.Tree.{Tree}
 use Rattle.records.specs.File.{DeclarationKind, Initializer, bare, given, Declarator, Statement, declaration, expression, other, File}
+use Rattle.records.proofs.Tests.{neither}
 use Rattle.walk.specs.Context.{Context, contextOf, nonScopedLiteralOnly}
 use Rattle.walk.specs.Substitute.{Answer, replaced, stopped, passed, substituteInExpression}
 use Rattle.walk.specs.Looks.{looksInExpression}
@@ -13,7 +14,6 @@ use Rattle.statements.specs.Trace.{Fold, Traced, pure, _>>=_, looked, folded}
 use Rattle.statements.specs.Declarators.{isUnsearched, isUsing, endsSearch, Searched, withTree, foldOf, afterAnswer, fromDeclarator, substituteFromDeclarators, withinDeclarator, withinDeclarators, substituteWithinDeclaration}
 use Rattle.statements.specs.Fold.{foldedFile, withStatements, foldFile}
 use Rattle.statements.specs.Statements.{Kept, statementOf, inFileOrder, afterDeclarators, fromStatement, fromStatements, substituteInStatement, inInitializer, inFirstDeclarator, foldStatement, foldStatements}
-use Rattle.preservation.proofs.Tests.{or-none}
 use Rattle.preservation.proofs.Places.{Place, declarator, statement, initializer, declaratorsAt, statementsAt}
 
 -- a program with a tree in a place
@@ -150,7 +150,7 @@ module _ (ctx : Context) where
   within-by : (before : List Statement) (k : DeclarationKind) (after : List Statement) (ds : List Declarator) (b : Bool) → (isUnsearched ctx || isUsing k) ≡ b
       → Moves (declared before k ds after) (declared before k (cond b (pure ds) (withinDeclarators ctx before k [] ds) .result) after) (cond b (pure ds) (withinDeclarators ctx before k [] ds) .trace)
   within-by before k after ds true e = unfold pure in done refl refl
-  within-by before k after ds false e = within-all before k after [] ds (or-none (isUnsearched ctx) (isUsing k) e .1)
+  within-by before k after ds false e = within-all before k after [] ds (neither (isUnsearched ctx) (isUsing k) e .1)
 
   within-moves : (before : List Statement) (k : DeclarationKind) (after : List Statement) (ds : List Declarator) → Moves (declared before k ds after) (declared before k (substituteWithinDeclaration ctx before k ds .result) after) (substituteWithinDeclaration ctx before k ds .trace)
   unfolding substituteWithinDeclaration

@@ -8,6 +8,7 @@ use Rattle.records.specs.Tree.{Node, Tree, Trees, node}
 use Rattle.records.specs.Place.{root}
 use Rattle.records.specs.Count.{usesIn}
 use Rattle.records.specs.declared.layout.NameFacts.{NameFacts}
+use Rattle.records.proofs.Tests.{clash}
 use Rattle.walk.specs.Shape.{shape, cleared as walked}
 use Rattle.walk.specs.Substitute.{Answer, replaced, stopped, passed, Plan, at, ofNode, isSpecificId, isMemberTag}
 use Rattle.runs.specs.Hand.{nothing, Given, only}
@@ -17,7 +18,7 @@ use Rattle.runs.specs.State.{State, Out, gave, bind}
 use Rattle.runs.specs.Run.{caught, gathered, held, own, beside, finished, runNode, run, runChildren}
 use Rattle.runs.specs.Facts.{TargetSame}
 use Rattle.preservation.proofs.Words.{set-here}
-use Rattle.preservation.proofs.Tests.{clash, same-cond}
+use Rattle.preservation.proofs.Tests.{same-cond}
 use Rattle.preservation.proofs.Tables.{kindsOf, kinds, formOf, form-shape, walked-cleared, cleared-once, name-form}
 use Rattle.preservation.proofs.Ends.{Ends, gives, cuts, halts, ends-map, ends-same, First}
 use Rattle.preservation.proofs.Uses.{reads, allTargets, Off, hand-off, specific, specific-read}

@@ -9,6 +9,7 @@ use Rattle.records.specs.Flags.{computed}
 use Rattle.records.specs.Tree.{Node, Tree, Trees, node}
 use Rattle.records.specs.File.{firstTree}
 use Rattle.records.specs.declared.layout.NameFacts.{NameFacts}
+use Rattle.records.proofs.Tests.{clash, both}
 use Rattle.walk.specs.Context.{contextOf}
 use Rattle.walk.specs.Unsettled.{unsettled}
 use Rattle.walk.specs.Effect.{mayHaveSideEffects, anyHasSideEffects, isLiteralValue}
@@ -21,7 +22,7 @@ use Rattle.runs.specs.Form.{is, cleared, Form, constant, name, chain, property,
 use Rattle.runs.specs.State.{State, Out, gave, bind}
 use Rattle.runs.specs.Run.{Turn, resolved, gathered, queued, held, own, beside, finished, runNode, run, runChildren, runOthers}
 use Rattle.runs.specs.Settled.{settled}
-use Rattle.preservation.proofs.Tests.{and-true, by-or, clash}
+use Rattle.preservation.proofs.Tests.{by-or}
 use Rattle.preservation.proofs.Tables.{formOf}
 use Rattle.preservation.proofs.Ends.{gives, ends-bind, ends-any, ends-map, stepOf}
 use Rattle.preservation.proofs.Uses.{reads, allReads, targets, allTargets}
@@ -84,7 +85,7 @@ module _ {Value Rest : Type 0} (σ : Setting Value Rest) where
   unfolding canReorder
   by-reorder t role h g =
       by-or _ (isLiteralValue true r)
-      (λ e. let (p, q) = and-true (not (mayHaveSideEffects r)) (not (mayHaveSideEffects t)) e in by-still t role h g (not-true _ p) (not-true _ q))
+      (λ e. let (p, q) = both (not (mayHaveSideEffects r)) (not (mayHaveSideEffects t)) e in by-still t role h g (not-true _ p) (not-true _ q))
       (λ e. by-literal (run names m t role) (free-frame t h g role) e)
 
   -- A node, by its form.
@@ -134,10 +135,10 @@ module _ {Value Rest : Type 0} (σ : Setting Value Rest) where
   by-shape links n₀ n ts e h g l o c p = by-chain n value _ (c refl)
   by-shape import n₀ n ts e h g l o c p =
       by-or (not (mayHaveSideEffects r) && not (anyHasSideEffects ts)) _
-      (λ q. let (x, y) = and-true (not (mayHaveSideEffects r)) (not (anyHasSideEffects ts)) q in by-import n value ts g (not-true _ x) (not-true _ y)) h e
+      (λ q. let (x, y) = both (not (mayHaveSideEffects r)) (not (anyHasSideEffects ts)) q in by-import n value ts g (not-true _ x) (not-true _ y)) h e
   by-shape delete n₀ n ts e h g l o c p = h e
   by-shape row n₀ n ts e h g l o c p = h e
   by-shape pair n₀ n ts e h g l o c p = by-property n value _ (p refl (not-true _ e))
   by-shape stopping n₀ n ts e h g l o c p = clash false refl e
-  by-shape (assigning x) n₀ n ts e h g l o c p = h (and-true (not (stopsAtTarget (contextOf file) r x (firstTree ts))) _ e .1)
+  by-shape (assigning x) n₀ n ts e h g l o c p = h (both (not (stopsAtTarget (contextOf file) r x (firstTree ts))) _ e .1)
   by-shape (steps x) n₀ n ts e h g l o c p = h e

@@ -8,6 +8,7 @@ use Rattle.records.specs.Tree.{Tree, Trees, node, none, more}
 use Rattle.records.specs.Place.{root}
 use Rattle.records.specs.Count.{usesIn}
 use Rattle.records.specs.declared.layout.NameFacts.{NameFacts}
+use Rattle.records.proofs.Tests.{clash}
 use Rattle.walk.specs.Substitute.{Answer, replaced, stopped, passed, Plan, all as every, first as leading, nothing as none-at-all, value as behind, test, branches, tag, next, asTag, inOrder, inBranches, byPlan, isSpecificId, isMemberTag}
 use Rattle.runs.specs.Hand.{Given, only}
 use Rattle.runs.specs.Step.{Role, value}
@@ -15,7 +16,6 @@ use Rattle.runs.specs.Form.{Form}
 use Rattle.runs.specs.State.{State, Out, gave, cut, stop, bind}
 use Rattle.runs.specs.Run.{Turn, all, skipped, second, third, takes, then, inTurn, run, runOthers}
 use Rattle.runs.specs.Facts.{GivesSame, TargetSame, TargetsSame, AllTargetsSame}
-use Rattle.preservation.proofs.Tests.{clash}
 use Rattle.preservation.proofs.Ends.{gives, cuts, halts, ends-map}
 use Rattle.preservation.proofs.Uses.{reads, allReads, targets, allTargets, Off, nothing-off, gives-off}
 use Rattle.preservation.proofs.Frame.{moved, shifted, shifted-bind, gave-on, inTurn-on}

@@ -9,6 +9,10 @@ use Rattle.runs.specs.Shapes.{someIn, someOf}
 use Rattle.preservation.proofs.Tests.{by-or, or-left, or-right}
 use Rattle.preservation.proofs.Turned.{Turned, same, here, apart, under, AllTurned, no-more, both}
 
+regroup : (x y z : Bool) → (y || z) ≡ true → ((x || y) || z) ≡ true
+regroup true y z e = refl
+regroup false y z e = e
+
 module _ (φ : ℕ → Bool) where
   -- a node at a position of this kind
   abbrev pub somewhere : Tree → Bool
@@ -35,23 +39,15 @@ module _ (φ : ℕ → Bool) where
   unfolding someIn walked
   some-under n ts us b g h =
       by-or (φ (n .position)) (someRow us) (λ e. or-left _ b (or-left (φ (n .position)) (someRow ts) e)) (λ e. regroup (φ (n .position)) (someRow ts) b (g e)) h
-    where
-      regroup : (x y z : Bool) → (y || z) ≡ true → ((x || y) || z) ≡ true
-      regroup true y z e = refl
-      regroup false y z e = e
 
   some-both : (t t′ : Tree) (ts us : Trees) (b : Bool) → (somewhere t′ ≡ true → (somewhere t || b) ≡ true) → (someRow us ≡ true → (someRow ts || b) ≡ true) → someRow (more t′ us) ≡ true → (someRow (more t ts) || b) ≡ true
   unfolding someIn
-  some-both t t′ ts us b f g h = by-or (somewhere t′) (someRow us) (λ e. mix (somewhere t) (someRow ts) b (f e)) (λ e. mix′ (somewhere t) (someRow ts) b (g e)) h
+  some-both t t′ ts us b f g h = by-or (somewhere t′) (someRow us) (λ e. mix (somewhere t) (someRow ts) b (f e)) (λ e. regroup (somewhere t) (someRow ts) b (g e)) h
     where
       mix : (x y z : Bool) → (x || z) ≡ true → ((x || y) || z) ≡ true
       mix true y z e = refl
       mix false true z e = refl
       mix false false z e = e
-
-      mix′ : (x y z : Bool) → (y || z) ≡ true → ((x || y) || z) ≡ true
-      mix′ true y z e = refl
-      mix′ false y z e = e
 
   module _ {v : ℕ} {r : Tree} where
     mutual

@@ -8,6 +8,7 @@ use borrow.Author.Tests.{eqb-true, eq-eqb}
 use Rattle.records.specs.Tree.{Tree}
 use Rattle.records.specs.File.{DeclarationKind, Var, Let, Const, Using, AwaitUsing, Initializer, bare, given, Declarator, Statement, declaration, expression, other}
 use Rattle.records.specs.declared.layout.NameFacts.{NameFacts}
+use Rattle.records.proofs.Tests.{clash}
 use Rattle.runs.specs.Store.{Store, set}
 use Rattle.runs.specs.Hand.{Given, only}
 use Rattle.runs.specs.Step.{value, ofDeclarator, ofOther, Step}
@@ -17,7 +18,6 @@ use Rattle.runs.specs.Run.{stepped, run}
 use Rattle.runs.specs.Script.{isPattern, sets, binds, declaresBare, declaresWith, runDeclarator, runDeclarators, gives, runStatement, runStatements}
 use Rattle.runs.specs.Facts.{throughBy, through}
 use Rattle.preservation.proofs.Words.{Blinds}
-use Rattle.preservation.proofs.Tests.{clash}
 use Rattle.preservation.proofs.Uses.{reads, targets}
 use Rattle.preservation.proofs.Frame.{moved, shifted, shifted-bind, gave-on, stepped-on, frame}
 use Rattle.preservation.proofs.Passing.{Put, put-blind}

@@ -14,10 +14,10 @@ use Rattle.records.specs.Node.{isNamed, twoChildren, fewest, most, goodChildren
 use Rattle.records.specs.Tree.{Node, Tree, Trees, node, count, recordOf}
 use Rattle.records.specs.declared.layout.NameFacts.{NameFacts}
 use Rattle.records.specs.declared.layout.NodeRecord.{NodeRecord}
+use Rattle.records.proofs.Tests.{clash, both as both-hold}
 use Rattle.walk.specs.Shape.{is, cleared as walked}
 use Rattle.walk.specs.Substitute.{at, preserveIndirectAccess}
 use Rattle.runs.specs.Form.{cleared}
-use Rattle.preservation.proofs.Tests.{and-true, clash}
 use Rattle.preservation.proofs.Tables.{zero-bit, marked-by, short-by, two-at, gains, clearedFlags, walked-cleared}
 use Rattle.preservation.proofs.At.{placedAt}
 use Rattle.preservation.proofs.WellMade.{wellMade, allWellMade, well-node, well-more, make-node, make-more}
@@ -68,13 +68,13 @@ property f c l p = record { kind = 26; flags = f; label = l; children = c; zero 
 flag-tests : (f c l p : ℕ) → goodFlags (property f c l p) ≡ true → (ltb f 128 ≡ true) × ((not (optional f) || false) ≡ true) × ((not (anonymous f) || false || false) ≡ true) × ((not (compound f) || false) ≡ true) × ((not (shorthand f) || not (computed f)) ≡ true)
 unfolding goodFlags
 flag-tests f c l p h =
-    let (x₁, y₁) = and-true _ (not (shorthand f) || not (computed f)) h in
-    let (x₂, y₂) = and-true _ (not (proto f) || true) x₁ in
-    let (x₃, y₃) = and-true _ (not (computed f) || true) x₂ in
-    let (x₄, y₄) = and-true _ (not (shorthand f) || true) x₃ in
-    let (x₅, y₅) = and-true _ (not (compound f) || false) x₄ in
-    let (x₆, y₆) = and-true _ (not (anonymous f) || false || false) x₅ in
-    let (x₇, y₇) = and-true (ltb f 128) (not (optional f) || false) x₆ in
+    let (x₁, y₁) = both-hold _ (not (shorthand f) || not (computed f)) h in
+    let (x₂, y₂) = both-hold _ (not (proto f) || true) x₁ in
+    let (x₃, y₃) = both-hold _ (not (computed f) || true) x₂ in
+    let (x₄, y₄) = both-hold _ (not (shorthand f) || true) x₃ in
+    let (x₅, y₅) = both-hold _ (not (compound f) || false) x₄ in
+    let (x₆, y₆) = both-hold _ (not (anonymous f) || false || false) x₅ in
+    let (x₇, y₇) = both-hold (ltb f 128) (not (optional f) || false) x₆ in
     (x₇, y₇, y₆, y₅, y₁)
 
 -- the flags of a property whose shorthand was cleared are good
@@ -104,21 +104,21 @@ module _ (names : List NameFacts) where
   good-with : (n : Node) (k f : ℕ) → goodNode names (recordOf n k) ≡ true → marked f ≡ marked (n .flags) → twoChildren f ≡ twoChildren (n .flags) → goodFlags (recordOf (withFlags f n) k) ≡ true → goodNode names (recordOf (withFlags f n) k) ≡ true
   unfolding goodNode goodNodeOf recordOf goodChildren mayMark
   good-with n k f e a b g =
-      let (x, c) = and-true (apart-flags (recordOf n k) && goodFlags (recordOf n k) && (not (marked (n .flags)) || mayMark (flagsOf names (n .label)) (recordOf n k))) (goodChildren (recordOf n k)) e in
-      let (y, m) = and-true (apart-flags (recordOf n k) && goodFlags (recordOf n k)) (not (marked (n .flags)) || mayMark (flagsOf names (n .label)) (recordOf n k)) x in
-      let (z, h) = and-true (apart-flags (recordOf n k)) (goodFlags (recordOf n k)) y in
+      let (x, c) = both-hold (apart-flags (recordOf n k) && goodFlags (recordOf n k) && (not (marked (n .flags)) || mayMark (flagsOf names (n .label)) (recordOf n k))) (goodChildren (recordOf n k)) e in
+      let (y, m) = both-hold (apart-flags (recordOf n k) && goodFlags (recordOf n k)) (not (marked (n .flags)) || mayMark (flagsOf names (n .label)) (recordOf n k)) x in
+      let (z, h) = both-hold (apart-flags (recordOf n k)) (goodFlags (recordOf n k)) y in
       rw (a, b, g, z, m, c)
 
   flags-of : (n : Node) (k : ℕ) → goodNode names (recordOf n k) ≡ true → goodFlags (recordOf n k) ≡ true
   unfolding goodNode goodNodeOf
   flags-of n k e =
-      let (x, c) = and-true (apart-flags (recordOf n k) && goodFlags (recordOf n k) && (not (marked (n .flags)) || mayMark (flagsOf names (n .label)) (recordOf n k))) (goodChildren (recordOf n k)) (unfold recordOf in e) in
-      let (y, m) = and-true (apart-flags (recordOf n k) && goodFlags (recordOf n k)) (not (marked (n .flags)) || mayMark (flagsOf names (n .label)) (recordOf n k)) x in
-      and-true (apart-flags (recordOf n k)) (goodFlags (recordOf n k)) y .1
+      let (x, c) = both-hold (apart-flags (recordOf n k) && goodFlags (recordOf n k) && (not (marked (n .flags)) || mayMark (flagsOf names (n .label)) (recordOf n k))) (goodChildren (recordOf n k)) (unfold recordOf in e) in
+      let (y, m) = both-hold (apart-flags (recordOf n k) && goodFlags (recordOf n k)) (not (marked (n .flags)) || mayMark (flagsOf names (n .label)) (recordOf n k)) x in
+      both-hold (apart-flags (recordOf n k)) (goodFlags (recordOf n k)) y .1
 
   good-by : (b : Bool) (n : Node) (k : ℕ) → (is 26 n && shorthand (n .flags)) ≡ b → goodNode names (recordOf n k) ≡ true → goodNode names (recordOf (withFlags (cond b (clearedFlags (n .flags)) (n .flags)) n) k) ≡ true
   good-by true n k e h =
-      let (p, q) = and-true (is 26 n) (shorthand (n .flags)) e in
+      let (p, q) = both-hold (is 26 n) (shorthand (n .flags)) e in
       good-with n k (clearedFlags (n .flags)) h (marked-by (n .flags) (gains (n .flags)) q) (two-at true (n .flags) q) (by-kind (eqb-true (n .kind) 26 p) q (flags-of n k h))
     where
       by-kind : n .kind ≡ 26 → shorthand (n .flags) ≡ true → goodFlags (recordOf n k) ≡ true → goodFlags (recordOf (withFlags (clearedFlags (n .flags)) n) k) ≡ true
@@ -135,10 +135,10 @@ module _ (names : List NameFacts) where
   good-parts : (n : Node) (k : ℕ) → goodNode names (recordOf n k) ≡ true → (named-well (recordOf n k) ≡ true) × (not (eqb (n .position) noPosition) ≡ true) × (goodFlags (recordOf n k) ≡ true) × ((not (marked (n .flags)) || mayMark (flagsOf names (n .label)) (recordOf n k)) ≡ true) × (goodChildren (recordOf n k) ≡ true)
   unfolding goodNode goodNodeOf recordOf
   good-parts n k e =
-      let (x, c) = and-true (apart-flags (recordOf n k) && goodFlags (recordOf n k) && (not (marked (n .flags)) || mayMark (flagsOf names (n .label)) (recordOf n k))) (goodChildren (recordOf n k)) e in
-      let (y, m) = and-true (apart-flags (recordOf n k) && goodFlags (recordOf n k)) (not (marked (n .flags)) || mayMark (flagsOf names (n .label)) (recordOf n k)) x in
-      let (z, h) = and-true (apart-flags (recordOf n k)) (goodFlags (recordOf n k)) y in
-      let (a, b) = and-true (named-well (recordOf n k)) (not (eqb (n .position) noPosition)) z in
+      let (x, c) = both-hold (apart-flags (recordOf n k) && goodFlags (recordOf n k) && (not (marked (n .flags)) || mayMark (flagsOf names (n .label)) (recordOf n k))) (goodChildren (recordOf n k)) e in
+      let (y, m) = both-hold (apart-flags (recordOf n k) && goodFlags (recordOf n k)) (not (marked (n .flags)) || mayMark (flagsOf names (n .label)) (recordOf n k)) x in
+      let (z, h) = both-hold (apart-flags (recordOf n k)) (goodFlags (recordOf n k)) y in
+      let (a, b) = both-hold (named-well (recordOf n k)) (not (eqb (n .position) noPosition)) z in
       (a, b, h, m, c)
 
   -- the position of one good node is good for another

@@ -11,6 +11,7 @@ use Rattle.records.specs.Script.{flagsOf}
 use Rattle.records.specs.Tree.{Tree}
 use Rattle.records.specs.Place.{root, isExpression, placed, loose}
 use Rattle.records.specs.File.{File}
+use Rattle.records.proofs.Tests.{both, neither}
 use Rattle.walk.specs.Context.{contextOf, factsOf}
 use Rattle.walk.specs.Unsettled.{unsettled, symbolValueMayChange, isClosedOverBlockScopedRead}
 use Rattle.runs.specs.Store.{Store}
@@ -20,7 +21,6 @@ use Rattle.runs.specs.Run.{resolved}
 use Rattle.runs.specs.Settled.{settled}
 use Rattle.runs.specs.Facts.{through, isOfNode, thisUnblocked}
 use Rattle.preservation.proofs.Words.{Blinds}
-use Rattle.preservation.proofs.Tests.{and-true, or-none}
 use Rattle.preservation.proofs.Uses.{reads, targets}
 
 -- what `this` gives is kept by a step
@@ -54,6 +54,6 @@ pub record Setting (Value Rest : Type 0) : Type 0 where
 pub settled-resolved : (f : File) (a : ℕ) → settled f a ≡ true → resolved (f .names) a ≡ true
 unfolding settled unsettled contextOf factsOf flagsOf
 settled-resolved f a e =
-    let g = not-true _ (and-true (ltb a (length (f .names))) (not (unsettled (contextOf f) a)) e .1) in
-    let h = or-none (unresolved (factsOf (contextOf f) a .flags)) (symbolValueMayChange (contextOf f) (factsOf (contextOf f) a)) (or-none _ (isClosedOverBlockScopedRead (contextOf f) (factsOf (contextOf f) a)) g .0) .0 in
+    let g = not-true _ (both (ltb a (length (f .names))) (not (unsettled (contextOf f) a)) e .1) in
+    let h = neither (unresolved (factsOf (contextOf f) a .flags)) (symbolValueMayChange (contextOf f) (factsOf (contextOf f) a)) (neither _ (isClosedOverBlockScopedRead (contextOf f) (factsOf (contextOf f) a)) g .0) .0 in
     rw h

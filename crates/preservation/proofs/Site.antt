@@ -6,6 +6,7 @@ use mathlib.Core.Path.{_≡_, refl, sym, ap, _∙_}
 use Rattle.records.specs.Tree.{Tree}
 use Rattle.records.specs.File.{DeclarationKind, Var, Let, Const, Using, AwaitUsing, given, Declarator, Statement, declaration}
 use Rattle.records.specs.declared.layout.NameFacts.{NameFacts}
+use Rattle.records.proofs.Tests.{clash}
 use Rattle.walk.specs.Context.{contextOf}
 use Rattle.walk.specs.Substitute.{replaced, substituteInExpression}
 use Rattle.statements.specs.Declarators.{isUsing}
@@ -15,7 +16,6 @@ use Rattle.runs.specs.Meaning.{Meaning}
 use Rattle.runs.specs.State.{State, Out, gave, cut, stop, bind}
 use Rattle.runs.specs.Run.{run}
 use Rattle.runs.specs.Script.{isPattern, sets, declaresWith, runDeclarator, runDeclarators, runStatement, runStatements}
-use Rattle.preservation.proofs.Tests.{clash}
 use Rattle.preservation.proofs.Frame.{moved}
 use Rattle.preservation.proofs.Setting.{Setting}
 use Rattle.preservation.proofs.Passing.{Put, Framed, bind-assoc, bind-same, gave-bind, first, drop}

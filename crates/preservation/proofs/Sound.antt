@@ -13,6 +13,7 @@ use Rattle.records.specs.File.{firstTree}
 use Rattle.records.specs.Place.{root, mayStand, mayBeLoose, loose, standUnder, placed, allPlaced}
 use Rattle.records.specs.Count.{usesIn}
 use Rattle.records.specs.declared.layout.NameFacts.{NameFacts}
+use Rattle.records.proofs.Tests.{clash, neither}
 use Rattle.walk.specs.Context.{Context, contextOf}
 use Rattle.walk.specs.Effect.{hasEffect, mayHaveSideEffects, anyHasSideEffects}
 use Rattle.walk.specs.Target.{mayDependOnSideEffect}
@@ -23,7 +24,7 @@ use Rattle.runs.specs.Step.{value, target}
 use Rattle.runs.specs.Form.{is, cleared, isDelete, Form, chain, property, importing, sequence, assignment, stepping, never, logical, conditional, optionally, form, order, childless, isName, isChain, isPlain, isAssignment, choiceOf, firstRole}
 use Rattle.runs.specs.State.{State, Out, gave, cut, stop, bind}
 use Rattle.runs.specs.Run.{Turn, all, skipped, second, third, takes, then, kept, gathered, chosen, inTurn, goesOn, own, beside, finished, runNode, run, runChildren}
-use Rattle.preservation.proofs.Tests.{or-none, by-or, clash, and-off, same-cond, and-mid}
+use Rattle.preservation.proofs.Tests.{by-or, and-off, same-cond, and-mid}
 use Rattle.preservation.proofs.Tables.{choosing, formOf, shapeKinds, shape-kinds}
 use Rattle.preservation.proofs.Ends.{cuts, ends-any}
 use Rattle.preservation.proofs.Uses.{reads, allReads, targets, allTargets, off-target, specific}
@@ -171,7 +172,7 @@ module _ {Value Rest : Type 0} (σ : Setting Value Rest) where
   -- a called name keeps its place
   member-root : (t : Tree) → (isMemberExpression (root t) || is 13 (root t)) ≡ false → isMemberTag t ≡ false
   unfolding isMemberTag
-  member-root (node n ts) e = let (p, q) = or-none (isMemberExpression n) (is 13 n) e in rw (p, q)
+  member-root (node n ts) e = let (p, q) = neither (isMemberExpression n) (is 13 n) e in rw (p, q)
 
   call-by : (x y z b : Bool) (t : Tree) → ((x || y) && z && b) ≡ false → (isMemberExpression (root r) || is 13 (root r)) ≡ z → is 4 (root t) ≡ b → (x && spills t) ≡ false
   unfolding isSpecificId
@@ -230,10 +231,10 @@ module _ {Value Rest : Type 0} (σ : Setting Value Rest) where
   unmarked : (t : Tree) → mayHaveSideEffects t ≡ false → marked (root t .flags) ≡ false
   unfolding mayHaveSideEffects hasEffect
   unmarked (node n ts) e =
-      let a = or-none (hasEffect n) (anyHasSideEffects ts) e .0 in
-      let b = or-none (marked (n .flags) || is 6 n || is 7 n || is 8 n) (is 20 n) a .0 in
-      let c = or-none (marked (n .flags) || is 6 n || is 7 n) (is 8 n) b .0 in
-      or-none (marked (n .flags)) (is 6 n) (or-none (marked (n .flags) || is 6 n) (is 7 n) c .0) .0
+      let a = neither (hasEffect n) (anyHasSideEffects ts) e .0 in
+      let b = neither (marked (n .flags) || is 6 n || is 7 n || is 8 n) (is 20 n) a .0 in
+      let c = neither (marked (n .flags) || is 6 n || is 7 n) (is 8 n) b .0 in
+      neither (marked (n .flags)) (is 6 n) (neither (marked (n .flags) || is 6 n) (is 7 n) c .0) .0
 
   plain-target : (x : Bool) (n : Node) (t : Tree) (ts : Trees) → mayHaveSideEffects r ≡ x → Aimed t → mayHaveSideEffects t ≡ false → (x && mayDependOnSideEffect ctx t) ≡ false
       → (s : S) → P.TargetAt σ s (assignment false) (more t ts) → 1 ≤ allReads v ts → reads v t ≡ 0 → Why s (run names m t (firstRole (assignment false) n value))
@@ -244,11 +245,11 @@ module _ {Value Rest : Type 0} (σ : Setting Value Rest) where
   assign-by : (c x b : Bool) (n : Node) (t : Tree) (ts : Trees) → mayHaveSideEffects r ≡ x → Aimed t → (mayHaveSideEffects t || c && x || x && mayDependOnSideEffect ctx t) ≡ b → Links σ (cond b none-at-all behind) (assignment c) n t ts
   unfolding choiceOf next
   assign-by c x true n t ts e a h = tt
-  assign-by true true false n t ts e a h = clash (true && true) (or-none (mayHaveSideEffects t) true (or-none (mayHaveSideEffects t || true) _ h .0) .1) refl
-  assign-by true false false n t ts e a h = ((λ s u k z. by-still σ t _ z (a .1) e (or-none (mayHaveSideEffects t) false (or-none (mayHaveSideEffects t || false) false h .0) .0)), choose (calm σ e) (λ w l. tt))
+  assign-by true true false n t ts e a h = clash (true && true) (neither (mayHaveSideEffects t) true (neither (mayHaveSideEffects t || true) _ h .0) .1) refl
+  assign-by true false false n t ts e a h = ((λ s u k z. by-still σ t _ z (a .1) e (neither (mayHaveSideEffects t) false (neither (mayHaveSideEffects t || false) false h .0) .0)), choose (calm σ e) (λ w l. tt))
   assign-by false x false n t ts e a h =
-      let (p, q) = or-none (mayHaveSideEffects t || false) (x && mayDependOnSideEffect ctx t) h in
-      ((λ s u k z. plain-target x n t ts e a (or-none (mayHaveSideEffects t) false p .0) q s u k z), straight refl tt)
+      let (p, q) = neither (mayHaveSideEffects t || false) (x && mayDependOnSideEffect ctx t) h in
+      ((λ s u k z. plain-target x n t ts e a (neither (mayHaveSideEffects t) false p .0) q s u k z), straight refl tt)
 
   assign-links : (c : Bool) (n : Node) (t : Tree) (ts : Trees) → Aimed t → Links σ (cond (stopsAtTarget ctx r c t) none-at-all behind) (assignment c) n t ts
   unfolding stopsAtTarget

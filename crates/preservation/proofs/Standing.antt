@@ -8,9 +8,9 @@ use Rattle.records.specs.Flags.{optional, shorthand}
 use Rattle.records.specs.Node.{isLink}
 use Rattle.records.specs.Tree.{Node, Tree, Trees, node, none, more}
 use Rattle.records.specs.Place.{root, isExpression, mayStand, loose, looseFirst, mayBeLoose, standUnder, placed, allPlaced}
+use Rattle.records.proofs.Tests.{clash, both as both-hold}
 use Rattle.walk.specs.Shape.{is, cleared}
 use Rattle.walk.specs.Substitute.{at, preserveIndirectAccess, isSpecificId}
-use Rattle.preservation.proofs.Tests.{and-true, clash}
 use Rattle.preservation.proofs.Tables.{unshort, walked-cleared, link-cleared}
 use Rattle.preservation.proofs.At.{placedAt}
 use Rattle.preservation.proofs.Kept.{stands, under as below, in-row}
@@ -42,7 +42,7 @@ other-rows : (b : Bool) (n : Node) (i k : ℕ) → (is 26 n && shorthand (n .fla
 other-rows true n i k e h = any-expression n i k (subst (λ x. mayStand (n .kind) (n .flags) i x ≡ true) (is-name n i k e h) h) (subst (λ x. isExpression x ≡ true) (sym (is-name n i k e h)) (unfold isExpression in refl))
   where
     is-name : (n : Node) (i k : ℕ) → (is 26 n && shorthand (n .flags)) ≡ true → mayStand (n .kind) (n .flags) i k ≡ true → k ≡ 4
-    is-name n i k e h = let (p, q) = and-true (is 26 n) (shorthand (n .flags)) e in eqb-true k 4 (unfold mayStand in (rw (eqb-true (n .kind) 26 p, q) at h))
+    is-name n i k e h = let (p, q) = both-hold (is 26 n) (shorthand (n .flags)) e in eqb-true k 4 (unfold mayStand in (rw (eqb-true (n .kind) 26 p, q) at h))
 other-rows false n i k e h = unfold cleared in rw e h
 
 pub still-stands : (n : Node) (i k : ℕ) → mayStand (n .kind) (n .flags) i k ≡ true → mayStand (n .kind) (cleared n .flags) i k ≡ true

@@ -8,9 +8,10 @@ use borrow.Author.Tests.{eqb-true, ne-eqb, eqb-false}
 use Rattle.records.specs.Flags.{bit, marked, optional, compound, shorthand, computed, proto}
 use Rattle.records.specs.Node.{isLink, twoChildren}
 use Rattle.records.specs.Tree.{Node}
+use Rattle.records.proofs.Tests.{both}
 use Rattle.walk.specs.Shape.{Choice as Way, never as always, skips, cuts, picks, Shape, constant as literal, identifier, targetName as aim, leaf as lone, chain as links, import, delete, sequence as row, property as pair, stopping, assignment as assigning, steps, shape, cleared as walked, isMemberExpression}
 use Rattle.runs.specs.Form.{is, cleared, Choice, never, logical, conditional, optionally, Form, constant, name, targetName, leaf, chain, property, importing, sequence, assignment, stepping, form}
-use Rattle.preservation.proofs.Tests.{and-true, and-off, or-right}
+use Rattle.preservation.proofs.Tests.{and-off, or-right}
 
 -- the kinds of a form
 unfoldable pub kindsOf : Form → Node → Bool
@@ -82,13 +83,13 @@ last-taken n d = taken (rw d)
 
 shape-taken : (n : Node) (b : Bool) → (is 9 n && eqb (n .label) 1) ≡ b → Taken (λ sh. shapeKinds sh n) (shape n)
 unfolding shape shapeKinds
-shape-taken n true d = rw (eqb-true (n .kind) 9 (and-true (is 9 n) _ d .0), and-true (is 9 n) _ d .1) (taken refl)
+shape-taken n true d = rw (eqb-true (n .kind) 9 (both (is 9 n) _ d .0), both (is 9 n) _ d .1) (taken refl)
 shape-taken n false d =
     row-or (is 1 n || is 2 n || is 27 n) literal (λ e. refl) (row-or (is 4 n) identifier (λ e. e) (row-or (is 29 n) aim (λ e. refl) (row-or (is 0 n || is 3 n || is 5 n || is 30 n) lone (λ e. refl)
     (row-or (is 13 n) links (λ e. e) (row-or (is 8 n) import (λ e. e) (row-or (is 9 n && eqb (n .label) 1) delete (λ e. refl) (row-or (is 28 n) row (λ e. e)
     (row-or (is 26 n) (cond (twoChildren (n .flags)) stopping pair) (λ e. property-of n (twoChildren (n .flags)) e) (row-or (is 25 n) stopping (λ e. or-right (is 26 n) _ e)
     (row-or (is 20 n) (assigning (compound (n .flags))) (λ e. e) (row-or (is 17 n) (steps skips) (λ e. e) (row-or (is 19 n) (steps picks) (λ e. e)
-    (row-or ((isMemberExpression n || is 14 n) && optional (n .flags)) (steps cuts) (λ e. and-true (isMemberExpression n || is 14 n) (optional (n .flags)) e .0) (last-taken n d))))))))))))))
+    (row-or ((isMemberExpression n || is 14 n) && optional (n .flags)) (steps cuts) (λ e. both (isMemberExpression n || is 14 n) (optional (n .flags)) e .0) (last-taken n d))))))))))))))
 
 pub shape-kinds : (n : Node) → shapeKinds (shape n) n ≡ true
 shape-kinds n = passes (shape-taken n (is 9 n && eqb (n .label) 1) refl)
@@ -147,12 +148,12 @@ short-by f false e = let h = eqb-true (f / 16 % 2) 1 e in ne-eqb ((f - 16) / 16 
 
 -- to clear a shorthand twice is to clear it once
 again : (b i : Bool) (f x : ℕ) → (i && shorthand f) ≡ b → cond (i && shorthand (cond b (clearedFlags f) f)) x (cond b (clearedFlags f) f) ≡ cond b (clearedFlags f) f
-again true i f x e = let z : (i && shorthand (clearedFlags f)) ≡ false = and-off i _ (short-by f (gains f) (and-true i _ e .1)) in rw z
+again true i f x e = let z : (i && shorthand (clearedFlags f)) ≡ false = and-off i _ (short-by f (gains f) (both i _ e .1)) in rw z
 again false i f x e = rw e
 
 -- a cleared node is no shorthand
 unshort-by : (b i : Bool) (f : ℕ) → (i && shorthand f) ≡ b → (i && shorthand (cond b (clearedFlags f) f)) ≡ false
-unshort-by true i f e = and-off i _ (short-by f (gains f) (and-true i _ e .1))
+unshort-by true i f e = and-off i _ (short-by f (gains f) (both i _ e .1))
 unshort-by false i f e = e
 
 pub unshort : (n : Node) → (is 26 n && shorthand (cleared n .flags)) ≡ false
@@ -171,7 +172,7 @@ walked-by false p f e = refl
 
 pub walked-cleared : (n : Node) → walked n ≡ cleared n
 unfolding walked cleared
-walked-cleared n = λ j. record { kind = n .kind; flags = walked-by (is 26 n && shorthand (n .flags)) (gains (n .flags)) (n .flags) (λ e. and-true (is 26 n) _ e .1) j; label = n .label; position = n .position }
+walked-cleared n = λ j. record { kind = n .kind; flags = walked-by (is 26 n && shorthand (n .flags)) (gains (n .flags)) (n .flags) (λ e. both (is 26 n) _ e .1) j; label = n .label; position = n .position }
 
 -- no link is a shorthand
 pub link-cleared : (n : Node) → (isLink (n .kind) && optional (cleared n .flags)) ≡ (isLink (n .kind) && optional (n .flags))
@@ -187,7 +188,7 @@ marked-at false f e = refl
 
 pub marked-cleared : (n : Node) → marked (cleared n .flags) ≡ marked (n .flags)
 unfolding cleared
-marked-cleared n = marked-at (is 26 n && shorthand (n .flags)) (n .flags) (λ e. and-true (is 26 n) _ e .1)
+marked-cleared n = marked-at (is 26 n && shorthand (n .flags)) (n .flags) (λ e. both (is 26 n) _ e .1)
 
 -- The form of a shape.
 unfoldable pub choosing : Way → Choice
@@ -246,7 +247,7 @@ rows false false false false false false false false i false false false = refl
 by-kind : (n : Node) (x y z : Bool) → is 26 n ≡ x → (is 9 n && eqb (n .label) 1) ≡ y → is 25 n ≡ z → form (cleared n) ≡ formOf (shape n)
 unfolding form shape cleared
 by-kind n true y z e g h = rw (eqb-true (n .kind) 26 e) (ap (λ b. cond (not b) property (stepping never)) (two-at (shorthand (n .flags)) (n .flags) refl) ∙ property-form (twoChildren (n .flags)))
-by-kind n false true z e g h = rw (eqb-true (n .kind) 9 (and-true (is 9 n) _ g .0), and-true (is 9 n) _ g .1) (unfold formOf in refl)
+by-kind n false true z e g h = rw (eqb-true (n .kind) 9 (both (is 9 n) _ g .0), both (is 9 n) _ g .1) (unfold formOf in refl)
 by-kind n false false true e g h = rw (eqb-true (n .kind) 25 h) (unfold formOf in refl)
 by-kind n false false false e g h =
     rw (e, g, h, or-assoc (is 10 n) (is 11 n) (is 12 n) (is 14 n)) (rows (is 1 n || is 2 n || is 27 n) (is 4 n) (is 29 n) (is 0 n || is 3 n || is 5 n || is 30 n) (is 13 n) (is 8 n) (is 28 n) (is 20 n) (compound (n .flags)) (is 17 n) (is 19 n) (((is 10 n || is 11 n || is 12 n) || is 14 n) && optional (n .flags)))

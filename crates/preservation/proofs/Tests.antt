@@ -1,27 +1,17 @@
 -- Tests: what is known of two of them together, and of the numbers 1 and 0 that stand for them.
-use Prim.Native.Nat.{ℕ, _≤_}
+use Prim.Native.Nat.{_≤_}
 use native.Mathlib.Omega.{arith}
 use mathlib.Core.Bool.{Bool, true, false, cond, _&&_, _||_, not}
 use mathlib.Core.Path.{_≡_, refl}
 use Rattle.records.specs.File.{one}
-
-pub clash : {A : Type 0} (b : Bool) → b ≡ false → b ≡ true → A
-clash b e g = absurd (let z : _≡_ {A = ℕ} 0 1 = cc in omega arith)
-
-pub and-true : (x y : Bool) → (x && y) ≡ true → (x ≡ true) × (y ≡ true)
-and-true true y e = (refl, e)
-and-true false y e = (cc, cc)
+use Rattle.records.proofs.Tests.{both}
 
 pub and-mid : (x y z : Bool) → (x && y && z) ≡ true → y ≡ true
-and-mid x y z e = and-true x y (and-true (x && y) z e .0) .1
+and-mid x y z e = both x y (both (x && y) z e .0) .1
 
 pub and-off : (x y : Bool) → y ≡ false → (x && y) ≡ false
 and-off true y e = e
 and-off false y e = refl
-
-pub or-none : (x y : Bool) → (x || y) ≡ false → (x ≡ false) × (y ≡ false)
-or-none true y e = (e, cc)
-or-none false y e = (refl, e)
 
 pub or-left : (x y : Bool) → x ≡ true → (x || y) ≡ true
 or-left true y e = refl

@@ -2,15 +2,13 @@
 use Prim.Native.Nat.{ℕ, _+_}
 use mathlib.Core.Bool.{Bool, true, false, cond}
 use mathlib.Core.Path.{_≡_, refl, subst}
-use Rattle.records.specs.Flags.{computed}
 use Rattle.records.specs.Tree.{Node, Tree, Trees, node, none, more}
 use Rattle.records.specs.File.{firstTree}
 use Rattle.records.specs.Place.{root}
 use Rattle.walk.specs.Context.{Context}
-use Rattle.walk.specs.Effect.{mayHaveSideEffects}
-use Rattle.walk.specs.Shape.{Choice, never, skips, cuts, picks, Shape, constant, identifier, targetName, leaf, chain, import, delete, sequence, property, stopping, assignment, steps, shape, cleared, is}
-use Rattle.walk.specs.Substitute.{Answer, replaced, stopped, passed, Plan, all, first, nothing, value, test, branches, tag, next, at, preserveIndirectAccess, asTag, inOrder, inBranches, byPlan, ofNode, isSpecificId, keepsCallee, isMemberTag, keepsIndirect, stopsAtTarget, planFor, plan, substituteInExpression, substituteInChildren}
-use Rattle.preservation.proofs.Tests.{and-mid}
+use Rattle.walk.specs.Shape.{shape, cleared}
+use Rattle.walk.specs.Substitute.{Answer, replaced, stopped, passed, Plan, all, first, nothing, value, test, branches, tag, next, at, preserveIndirectAccess, asTag, inOrder, inBranches, byPlan, ofNode, isSpecificId, plan, substituteInExpression, substituteInChildren}
+use Rattle.walk.proofs.Tagged.{Tagged, tagged, next-untagged}
 
 -- the number says how often r was placed
 mutual
@@ -61,27 +59,7 @@ module _ (ctx : Context) (v : ℕ) (r : Tree) where
   tag-made t (stopped t′) e h = h
   tag-made t passed e h = tt
 
-  -- a tag is kept apart only where it is the name
-  abbrev Tags : Plan → Trees → Type 0
-  Tags all ts = Unit {0}
-  Tags first ts = Unit {0}
-  Tags nothing ts = Unit {0}
-  Tags value ts = Unit {0}
-  Tags test ts = Unit {0}
-  Tags branches ts = Unit {0}
-  Tags tag ts = isSpecificId v (root (firstTree ts)) ≡ true
-
-  tags-next : (p : Plan) (ts : Trees) → Tags (next p) ts
-  unfolding next
-  tags-next all ts = tt
-  tags-next first ts = tt
-  tags-next nothing ts = tt
-  tags-next value ts = tt
-  tags-next test ts = tt
-  tags-next branches ts = tt
-  tags-next tag ts = tt
-
-  plan-made : (p : Plan) (t : Tree) (ts : Trees) (a : Answer Tree) (b : Answer Trees) → Tags p (more t ts) → Made t a → AllMade ts b → AllMade (more t ts) (byPlan p t ts a b)
+  plan-made : (p : Plan) (t : Tree) (ts : Trees) (a : Answer Tree) (b : Answer Trees) → Tagged v p (more t ts) → Made t a → AllMade ts b → AllMade (more t ts) (byPlan p t ts a b)
   unfolding byPlan firstTree
   plan-made all t ts a b e h g = order-made t ts a b h g
   plan-made first t ts a b e h g = order-made t ts a b h g
@@ -90,37 +68,6 @@ module _ (ctx : Context) (v : ℕ) (r : Tree) where
   plan-made test t ts a b e h g = order-made t ts a b h g
   plan-made branches t ts a b e h g = branches-made t ts a b h g
   plan-made tag t ts a b e h g = order-made t ts (asTag a) b (tag-made t a e h) g
-
-  tags-never : (b : Bool) (n : Node) (ts : Trees) → keepsIndirect v r n ts ≡ b → Tags (cond b tag all) ts
-  unfolding keepsIndirect
-  tags-never true n ts e = and-mid (is 24 n) (isSpecificId v (root (firstTree ts))) (isMemberTag r) e
-  tags-never false n ts e = tt
-
-  tags-either : (b : Bool) (p q : Plan) (ts : Trees) → Tags p ts → Tags q ts → Tags (cond b p q) ts
-  tags-either true p q ts h g = h
-  tags-either false p q ts h g = g
-
-  tags-way : (c : Choice) (n : Node) (ts : Trees) → Tags (planFor ctx v r c n ts) ts
-  unfolding planFor
-  tags-way never n ts = tags-never (keepsIndirect v r n ts) n ts refl
-  tags-way skips n ts = tags-either (mayHaveSideEffects r) first all ts tt tt
-  tags-way cuts n ts = tags-either (mayHaveSideEffects r) first all ts tt tt
-  tags-way picks n ts = tags-either (mayHaveSideEffects r) first test ts tt tt
-
-  tags-plan : (sh : Shape) (n : Node) (ts : Trees) → Tags (plan ctx v r sh n ts) ts
-  unfolding plan
-  tags-plan constant n ts = tt
-  tags-plan identifier n ts = tt
-  tags-plan targetName n ts = tt
-  tags-plan leaf n ts = tt
-  tags-plan chain n ts = tt
-  tags-plan import n ts = tt
-  tags-plan delete n ts = tt
-  tags-plan sequence n ts = tt
-  tags-plan property n ts = tags-either (computed (n .flags)) nothing all ts tt tt
-  tags-plan stopping n ts = tt
-  tags-plan (assignment c) n ts = tags-either (stopsAtTarget ctx r c (firstTree ts)) nothing value ts tt tt
-  tags-plan (steps c) n ts = tags-either (keepsCallee r n ts) nothing (planFor ctx v r c n ts) ts tt (tags-way c n ts)
 
   node-made : (n : Node) (ts : Trees) (p : Bool) (a : Answer Trees) → AllMade ts a → Made (node n ts) (ofNode n ts p a)
   unfolding ofNode
@@ -137,11 +84,11 @@ module _ (ctx : Context) (v : ℕ) (r : Tree) where
     unfolding substituteInExpression
 
     made : (t : Tree) → Made t (substituteInExpression ctx v r t)
-    made (node n ts) = name-made n ts (isSpecificId v n) _ refl (node-made n ts _ _ (all-made ts (plan ctx v r (shape n) n ts) (tags-plan (shape n) n ts)))
+    made (node n ts) = name-made n ts (isSpecificId v n) _ refl (node-made n ts _ _ (all-made ts (plan ctx v r (shape n) n ts) (tagged ctx v r (shape n) n ts)))
 
-    all-made : (ts : Trees) (p : Plan) → Tags p ts → AllMade ts (substituteInChildren ctx v r p ts)
+    all-made : (ts : Trees) (p : Plan) → Tagged v p ts → AllMade ts (substituteInChildren ctx v r p ts)
     all-made none p e = tt
-    all-made (more t ts) p e = plan-made p t ts _ _ e (made t) (all-made ts (next p) (tags-next p ts))
+    all-made (more t ts) p e = plan-made p t ts _ _ e (made t) (all-made ts (next p) (next-untagged v p ts))
 
   -- a search that replaces places the initializer once; one that stops, nowhere
   pub replaced-turned : (t t′ : Tree) → substituteInExpression ctx v r t ≡ replaced t′ → Turned v r 1 t t′

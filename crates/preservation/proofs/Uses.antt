@@ -12,6 +12,7 @@ use Rattle.records.specs.Script.{flagsOf}
 use Rattle.records.specs.Tree.{Node, Tree, Trees, node, more}
 use Rattle.records.specs.Count.{targetName as aimOf, nameRead, usesIn, usesOf}
 use Rattle.records.specs.declared.layout.NameFacts.{NameFacts}
+use Rattle.records.proofs.Tests.{both}
 use Rattle.runs.specs.Hand.{Key, Beside, nothing, bareEval, targetName, opaqueTarget, member, Given, firstOr}
 use Rattle.runs.specs.Step.{Role}
 use Rattle.runs.specs.Meaning.{Meaning}
@@ -19,7 +20,7 @@ use Rattle.runs.specs.Form.{is, cleared, isDelete, Form, form, isName, isChain,
 use Rattle.runs.specs.State.{State, Out}
 use Rattle.runs.specs.Run.{kept, own, beside, run, runChildren}
 use Rattle.runs.specs.Facts.{isTargetOf, aims, throughBy, through}
-use Rattle.preservation.proofs.Tests.{and-off, and-true}
+use Rattle.preservation.proofs.Tests.{and-off}
 use Rattle.preservation.proofs.Ends.{Ends, ends-any, First, stepOf, Given-ends, Hand-ends, ends, ends-children}
 
 -- how often a tree reads a name, and how often the name is a target in it
@@ -62,7 +63,7 @@ or-and-by false y z h g = and-by y z g
 -- the name that is searched for, and that it is read there
 pub specific : (v : ℕ) (n : Node) → isSpecificId v n ≡ true → (n .kind ≡ 4) × (n .label ≡ v)
 unfolding isSpecificId
-specific v n e = let (p, q) = and-true (is 4 n) (eqb (n .label) v) e in (eqb-true (n .kind) 4 p, eqb-true (n .label) v q)
+specific v n e = let (p, q) = both (is 4 n) (eqb (n .label) v) e in (eqb-true (n .kind) 4 p, eqb-true (n .label) v q)
 
 pub specific-read : (v : ℕ) (n : Node) (ts : Trees) → isSpecificId v n ≡ true → 1 ≤ reads v (node n ts)
 unfolding usesIn nameRead

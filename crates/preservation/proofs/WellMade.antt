@@ -14,7 +14,8 @@ use Rattle.records.specs.Node.{isNamed, fewest, most, goodChildren, goodFlags, 
 use Rattle.records.specs.Tree.{Node, Tree, Trees, node, none, more, count, recordOf}
 use Rattle.records.specs.declared.layout.NameFacts.{NameFacts}
 use Rattle.records.specs.declared.layout.NodeRecord.{NodeRecord}
-use Rattle.preservation.proofs.Tests.{and-true, by-or, or-left}
+use Rattle.records.proofs.Tests.{both}
+use Rattle.preservation.proofs.Tests.{by-or, or-left}
 
 unfoldable mutual
   pub wellMade : List NameFacts → Tree → Bool
@@ -27,11 +28,11 @@ unfoldable mutual
 module _ (names : List NameFacts) where
   pub well-node : (n : Node) (ts : Trees) → wellMade names (node n ts) ≡ true → (goodNode names (recordOf n (count ts)) ≡ true) × (allWellMade names ts ≡ true)
   unfolding wellMade
-  well-node n ts e = and-true _ (allWellMade names ts) e
+  well-node n ts e = both _ (allWellMade names ts) e
 
   pub well-more : (t : Tree) (ts : Trees) → allWellMade names (more t ts) ≡ true → (wellMade names t ≡ true) × (allWellMade names ts ≡ true)
   unfolding wellMade
-  well-more t ts e = and-true (wellMade names t) (allWellMade names ts) e
+  well-more t ts e = both (wellMade names t) (allWellMade names ts) e
 
   pub make-node : (n : Node) (ts : Trees) → goodNode names (recordOf n (count ts)) ≡ true → allWellMade names ts ≡ true → wellMade names (node n ts) ≡ true
   unfolding wellMade
@@ -56,25 +57,25 @@ module _ (names : List NameFacts) where
   pub named-in : (n : Node) (k : ℕ) → goodNode names (recordOf n k) ≡ true → eqb (n .kind) 4 ≡ true → ltb (n .label) (length names) ≡ true
   unfolding goodNode goodNodeOf recordOf
   named-in n k e g =
-      let a = and-true _ (goodChildren (recordOf n k)) e .0 in
-      let b = and-true _ (not (marked (n .flags)) || mayMark (flagsOf names (n .label)) (recordOf n k)) a .0 in
-      let c = and-true _ (goodFlags (recordOf n k)) b .0 in
-      let d = and-true _ (not (eqb (n .position) noPosition)) c .0 in
-      let f = and-true (parts (recordOf n k)) (eqb (recordOf n k .zero) 0) d .0 in
-      right (isNamed (n .kind)) (ltb (n .label) (length names)) (and-true (leb (n .kind) 30) _ f .1) (or-left (eqb (n .kind) 4) _ g)
+      let a = both _ (goodChildren (recordOf n k)) e .0 in
+      let b = both _ (not (marked (n .flags)) || mayMark (flagsOf names (n .label)) (recordOf n k)) a .0 in
+      let c = both _ (goodFlags (recordOf n k)) b .0 in
+      let d = both _ (not (eqb (n .position) noPosition)) c .0 in
+      let f = both (parts (recordOf n k)) (eqb (recordOf n k .zero) 0) d .0 in
+      right (isNamed (n .kind)) (ltb (n .label) (length names)) (both (leb (n .kind) 30) _ f .1) (or-left (eqb (n .kind) 4) _ g)
 
   -- a member has its object, and a computed one its key too
   children-by : (k x y c : ℕ) (b : Bool) → (leb x k && leb k y && b) ≡ true → x ≡ c → y ≡ c → k ≡ c
   children-by k x y c b e g h =
-      let a = and-true (leb x k && leb k y) b e .0 in
-      let (p, q) = and-true (leb x k) (leb k y) a in
+      let a = both (leb x k && leb k y) b e .0 in
+      let (p, q) = both (leb x k) (leb k y) a in
       let p′ = leb-true x k p in
       let q′ = leb-true k y q in
       omega arith
 
   good-children : (n : Node) (k : ℕ) → goodNode names (recordOf n k) ≡ true → goodChildren (recordOf n k) ≡ true
   unfolding goodNode goodNodeOf
-  good-children n k e = and-true (before (recordOf n k)) (goodChildren (recordOf n k)) e .1
+  good-children n k e = both (before (recordOf n k)) (goodChildren (recordOf n k)) e .1
 
   count-by : (n : Node) (k c : ℕ) → goodNode names (recordOf n k) ≡ true → getD fewest (n .kind) 0 ≡ c → getD most (n .kind) 0 ≡ c → k ≡ c
   unfolding goodChildren recordOf

@@ -7,6 +7,7 @@ use mathlib.Core.Path.{_≡_, refl, sym, ap, _∙_, subst, fun-ext}
 use lib.Dec.{eqb}
 use borrow.Author.Tests.{eqb-true}
 use Rattle.records.specs.File.{Statement, File}
+use Rattle.records.proofs.Tests.{clash}
 use Rattle.walk.specs.Context.{contextOf}
 use Rattle.statements.specs.Trace.{Fold}
 use Rattle.statements.specs.Fold.{foldedFile, withStatements, foldFile}
@@ -17,7 +18,6 @@ use Rattle.runs.specs.Script.{runStatements, begin, stopped, ended, whole, ran,
 use Rattle.runs.specs.Shapes.{declared}
 use Rattle.runs.specs.Facts.{Each, FoldKeeps, Facts}
 use Rattle.runs.specs.Demand.{folded, both-stopped, both-ended, SameRun, Unchanged}
-use Rattle.preservation.proofs.Tests.{clash}
 use Rattle.preservation.proofs.Frame.{Shift, moved, shifted}
 use Rattle.preservation.proofs.Passing.{Put}
 use Rattle.preservation.proofs.Moves.{Moves, done, fold, stop as halt, drop, file-moves}

@@ -3,3 +3,4 @@ pub mod Tests
 pub mod Series
 pub mod Behind
 pub mod Names
+pub mod Judged

@@ -26,6 +26,10 @@ pub neither : (a b : Bool) → (a || b) ≡ false → (a ≡ false) × (b ≡ fa
 neither true b h = absurd (true≢false h)
 neither false b h = (refl, h)
 
+-- no test both holds and fails
+pub clash : {A : Type 0} (b : Bool) → b ≡ false → b ≡ true → A
+clash b e g = absurd (true≢false (sym g ∙ e))
+
 module _ {A : Type 0} (good : A → Bool) where
   -- a test of each record by itself doesn't see its number
   pub every-from : (i j : ℕ) (xs : List A) → everyFrom (λ n. good) i xs ≡ everyFrom (λ n. good) j xs

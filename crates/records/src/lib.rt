@@ -1,4 +1,4 @@
-// The record file: its numbers and records, the refusal table, and the writers of its parts.
+// The record file: its numbers and records, and rows 1 to 7 of the refusal table, record by record.
 pub mod facts;
 pub mod header;
 pub mod layout;

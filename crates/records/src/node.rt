@@ -1,10 +1,12 @@
 // Row 7 of the refusal table: a node by itself.
 ghost use mathlib.Core.Path.{_≡_};
-ghost use Prim.Native.Nat.{_+_, _*_, _≤_};
-ghost use lib.ListN.{length, getD};
+ghost use mathlib.Core.Bool.{_&&_, _||_, not};
+ghost use Prim.Native.Nat.{ℕ, _+_, _*_, _≤_};
+ghost use lib.ListN.{length};
 ghost use Rattle.records.specs.Record.{nameAt, nodeAt};
 ghost use Rattle.records.specs.Records.{recordsFrom, every};
-ghost use Rattle.records.specs.Node.{fewest, most, goodChildren, goodFlags, mayMark, goodNodeOf, goodNode};
+ghost use Rattle.records.specs.Flags.{marked as isMarked};
+ghost use Rattle.records.specs.Node.{fewest as fewestOf, most as mostOf, goodChildren, goodFlags, mayMark, goodNodeOf, goodNode};
 use crate::facts::flags_of;
 use crate::layout::NameId;
 use crate::layout::NodeRecord;
@@ -80,36 +82,19 @@ const MOST: [u16; 31] = [
     0,
 ];
 
-fn fewest_children(kind: u8) -> u16
-    ensures { λ r. ⌜ r ≡ getD fewest kind 0 ⌝ }
-{
-    let k = kind as usize;
-    if k < 31 {
-        return FEWEST[k];
-    }
-    0
-}
-
-fn most_children(kind: u8) -> u16
-    ensures { λ r. ⌜ r ≡ getD most kind 0 ⌝ }
-{
-    let k = kind as usize;
-    if k < 31 {
-        return MOST[k];
-    }
-    0
-}
-
-fn children_are_good(n: NodeRecord) -> bool
+// The two tables are lent: a constant would be laid down anew for each node.
+fn children_are_good(n: NodeRecord, fewest: &[u16], most: &[u16]) -> bool
+    requires { ⌜ n .kind ≤ 30 ⌝ }
+    requires { ⌜ now fewest ≡ fewestOf ⌝ }
+    requires { ⌜ now most ≡ mostOf ⌝ }
     ensures { λ r. ⌜ r ≡ goodChildren n ⌝ }
 {
-    let fewest = fewest_children(n.kind);
-    let most = most_children(n.kind);
+    let kind = n.kind as usize;
     let computed = n.flags / 32 % 2 == 1;
     let proto = n.flags / 64 % 2 == 1;
     let two = computed & !proto;
-    (fewest <= n.children)
-        & (n.children <= most)
+    (fewest[kind] <= n.children)
+        & (n.children <= most[kind])
         & (!(n.kind == 26) | two & (n.children == 2) | !two & (n.children == 1))
 }
 
@@ -148,19 +133,59 @@ fn may_mark(n: NodeRecord, name_flags: u16) -> bool
     !never & (!named | unresolved)
 }
 
-// A node by itself: `name_flags` are the flags of the name that its label is, among `names` names.
-pub fn node_is_good(n: NodeRecord, names: u16, name_flags: u16) -> bool
-    ensures { λ r. ⌜ r ≡ goodNodeOf names «name_flags» n ⌝ }
+// A node among `names` names, but for its flags.
+fn record_is_good(n: NodeRecord, names: u16, fewest: &[u16], most: &[u16]) -> bool
+    requires { ⌜ now fewest ≡ fewestOf ⌝ }
+    requires { ⌜ now most ≡ mostOf ⌝ }
+    ensures { λ r. ⌜ ((f : ℕ) → goodNodeOf names f n ≡ (r && (goodFlags n && (not (isMarked (n .flags)) || mayMark f n)))) ⌝ }
 {
+    let sound = (n.kind <= 30) & (n.zero == 0) & !(n.position == NO_POSITION);
     let named = (n.kind == 4) | (n.kind == 29);
+    if sound {
+        return (!named | (n.label < names)) & children_are_good(n, fewest, most);
+    }
+    false
+}
+
+// A node by itself. Most have no flags, and the flags of a name are asked for a node that has some.
+fn node_is_good(file: &[u8], names: u16, n: NodeRecord, fewest: &[u16], most: &[u16]) -> bool
+    requires { ⌜ 24 + 12 * names ≤ length (now file) ⌝ }
+    requires { ⌜ now fewest ≡ fewestOf ⌝ }
+    requires { ⌜ now most ≡ mostOf ⌝ }
+    ensures { λ r. ⌜ r ≡ goodNode (recordsFrom (nameAt (now (file .entry))) 12 names 24) n ⌝ }
+{
+    if n.flags == 0 {
+        return record_is_good(n, names, fewest, most);
+    }
     let marked = n.flags / 1 % 2 == 1;
-    (n.kind <= 30)
-        & (!named | (n.label < names))
-        & (n.zero == 0)
-        & !(n.position == NO_POSITION)
-        & flags_are_good(n)
-        & (!marked | may_mark(n, name_flags))
-        & children_are_good(n)
+    let name_flags = flags_of(file, names, NameId(n.label));
+    record_is_good(n, names, fewest, most)
+        & (flags_are_good(n) & (!marked | may_mark(n, name_flags)))
+}
+
+// Whether all of the nodes from `from` on are good, by the tables of children.
+fn nodes_are_good_by(
+    file: &[u8],
+    from: usize,
+    count: usize,
+    names: u16,
+    fewest: &[u16],
+    most: &[u16],
+) -> bool
+    requires { ⌜ from + 12 * count ≤ length (now file) ⌝ }
+    requires { ⌜ 24 + 12 * names ≤ length (now file) ⌝ }
+    requires { ⌜ now fewest ≡ fewestOf ⌝ }
+    requires { ⌜ now most ≡ mostOf ⌝ }
+    ensures { λ r. ⌜ r ≡ every (goodNode (recordsFrom (nameAt (now (file .entry))) 12 names 24)) (recordsFrom (nodeAt (now (file .entry))) 12 count from) ⌝ }
+{
+    let mut good = true;
+    let mut i = 0;
+    while i < count {
+        let n = node_at(file, from + 12 * i);
+        good = good & node_is_good(file, names, n, fewest, most);
+        i += 1;
+    }
+    good
 }
 
 // Whether all of the nodes from `from` on are good.
@@ -169,12 +194,7 @@ pub fn nodes_are_good(file: &[u8], from: usize, count: usize, names: u16) -> boo
     requires { ⌜ 24 + 12 * names ≤ length (now file) ⌝ }
     ensures { λ r. ⌜ r ≡ every (goodNode (recordsFrom (nameAt (now (file .entry))) 12 names 24)) (recordsFrom (nodeAt (now (file .entry))) 12 count from) ⌝ }
 {
-    let mut good = true;
-    let mut i = 0;
-    while i < count {
-        let n = node_at(file, from + 12 * i);
-        good = good & node_is_good(n, names, flags_of(file, names, NameId(n.label)));
-        i += 1;
-    }
-    good
+    let fewest = FEWEST;
+    let most = MOST;
+    nodes_are_good_by(file, from, count, names, &fewest, &most)
 }

@@ -1,4 +1,4 @@
--- What the rows that refuse a file no more say of it. Assumes nothing.
+-- What is known of a file that rows 1, 3, 4 or 6 don't refuse. Assumes nothing.
 use mathlib.Core.Path.{_≡_, refl, sym, ap, _∙_}
 use mathlib.Core.Bool.{Bool, true, false, not, _&&_, _||_, true≢false}
 use mathlib.Core.List.{List, [], _∷_}

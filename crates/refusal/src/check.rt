@@ -1,4 +1,4 @@
-// The refusal table: `refusal` is the public call, and `check` its tests in the table's order.
+// The refusal table, in its order: `refusal`, the public call, has the rows of the header, and `check` the others.
 ghost use mathlib.Core.Path.{_≡_};
 ghost use Prim.Native.Nat.{_≤_, _<_};
 ghost use lib.ListN.{length};
@@ -32,7 +32,7 @@ fn check(
     seen: &mut [u8],
 ) -> Refusal
     requires { ⌜ HeaderPasses (now file) h ⌝ }
-    requires { ⌜ 3000 ≤ length (now stack) ⌝ }
+    requires { ⌜ h .nodes ≤ length (now stack) ⌝ }
     requires { ⌜ 256 ≤ length (now reads) ⌝ }
     requires { ⌜ 256 ≤ length (now targets) ⌝ }
     requires { ⌜ 256 ≤ length (now seen) ⌝ }
@@ -67,24 +67,29 @@ fn check(
     Refusal::Accepted
 }
 
-// The arrays are made where the header passes.
+// The arrays with a place for each name are made.
+fn check_over(file: &[u8], h: Header, room: usize, stack: &mut [u16]) -> Refusal
+    requires { ⌜ HeaderPasses (now file) h ⌝ }
+    requires { ⌜ h .nodes ≤ length (now stack) ⌝ }
+    ensures { λ r. ⌜ number r ≡ refusalOf (now (file .entry)) room ⌝ }
+{
+    let mut reads = [0u16; 256];
+    let mut targets = [0u16; 256];
+    let mut seen = [0u8; 256];
+    check(file, h, room, stack, &mut reads, &mut targets, &mut seen)
+}
+
+// The stack is made where the header passes: a small one, which is sooner cleared, for a small file.
 fn check_records(file: &[u8], h: Header, room: usize) -> Refusal
     requires { ⌜ HeaderPasses (now file) h ⌝ }
     ensures { λ r. ⌜ number r ≡ refusalOf (now (file .entry)) room ⌝ }
 {
+    if h.nodes <= 240 {
+        let mut stack = [0u16; 240];
+        return check_over(file, h, room, &mut stack);
+    }
     let mut stack = [0u16; 3000];
-    let mut reads = [0u16; 256];
-    let mut targets = [0u16; 256];
-    let mut seen = [0u8; 256];
-    check(
-        file,
-        h,
-        room,
-        &mut stack,
-        &mut reads,
-        &mut targets,
-        &mut seen,
-    )
+    check_over(file, h, room, &mut stack)
 }
 
 // Whether a file and a room for its result are accepted, or the row of the table that refuses them. Any bytes.

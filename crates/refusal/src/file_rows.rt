@@ -106,7 +106,7 @@ pub fn counts_are_bad(file: &[u8], h: Header, reads: &mut [u16], targets: &mut [
     !counts_are_good(file, size(h.names), reads, targets)
 }
 
-// Row 9, where row 6 holds no more.
+// Row 9, of a file that row 6 doesn't refuse.
 pub fn names_are_declared_twice(file: &[u8], h: Header, seen: &mut [u8]) -> bool
     requires { ⌜ h ≡ headerOf (now file) ⌝ }
     requires { ⌜ length (now file) ≡ fileLength h ⌝ }

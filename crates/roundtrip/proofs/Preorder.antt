@@ -107,15 +107,6 @@ rowOf-append (r ∷ rs) qs c =
     let p = closed-parts r rs c in
     rw (rowOf-append rs qs (p .1), firsts-within (r .children) (rowOf rs) (rowOf qs) (p .0), others-within (r .children) (rowOf rs) (rowOf qs) (p .0))
 
--- closed records before others close if the others do
-pub closed-append : (rs qs : List NodeRecord) → closed rs ≡ true → closed (rs ++ qs) ≡ closed qs
-unfolding closed
-closed-append [] qs c = refl
-closed-append (r ∷ rs) qs c =
-    let p = closed-parts r rs c in
-    let room = le-leb (r .children) (count (rowOf rs) + count (rowOf qs)) (omega arith) in
-    rw (rowOf-append rs qs (p .1), count-joined (rowOf rs) (rowOf qs), room) (closed-append rs qs (p .1))
-
 -- a record whose zero field is zero, from its node
 record-again : (r : NodeRecord) (children : ℕ) → children ≡ r .children → r .zero ≡ 0 → recordOf (nodeOf r) children ≡ r
 unfolding recordOf nodeOf

@@ -79,7 +79,7 @@ kind-small Using = omega arith
 kind-small AwaitUsing = omega arith
 
 -- and tells its kind
-kind-back : (k : DeclarationKind) → declarationKind (kindNumber k) ≡ k
+pub kind-back : (k : DeclarationKind) → declarationKind (kindNumber k) ≡ k
 unfolding kindNumber declarationKind
 kind-back Var = refl
 kind-back Let = refl

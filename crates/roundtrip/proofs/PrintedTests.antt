@@ -5,7 +5,7 @@ use mathlib.Core.List.{List, [], _∷_}
 use Prim.Native.Nat.{_+_}
 use native.Mathlib.Omega.{arith}
 use lib.ListN.{length, length-append}
-use lib.Dec.{eqb, leb}
+use lib.Dec.{eqb}
 use borrow.Author.Tests.{le-leb, lt-ltb, le-ltb, eq-eqb}
 use Rattle.records.specs.Limits.{headerLength}
 use Rattle.records.specs.Records.{every, everyFrom}
@@ -17,7 +17,7 @@ use Rattle.records.specs.Script.{goodStatement, declaratorSum}
 use Rattle.records.specs.Place.{expressions}
 use Rattle.records.proofs.Tests.{every-more}
 use Rattle.roundtrip.proofs.PrintedStatements.{declaratorRecords-append, kind-small, no-declaration}
-use Rattle.roundtrip.proofs.ReadStatements.{presentKnown, initializers-append}
+use Rattle.roundtrip.proofs.ReadStatements.{initializers-append}
 use Rattle.roundtrip.proofs.PrintedFile.{printed-header, printed-length}
 
 module _ (f : File) where
@@ -35,18 +35,6 @@ module _ (f : File) where
   pub printed-measured : otherLength (print f) (headerOf (print f)) ≡ false
   unfolding otherLength
   printed-measured = rw (printed-header f, eq-eqb (length (print f)) (fileLength (headerFor f)) (printed-length f))
-
-pub given-known : (i : Initializer) → leb (isGiven i) 1 ≡ true
-unfolding isGiven
-given-known bare = refl
-given-known (given t) = refl
-
--- row 6: a declarator's mark is 0 or 1
-pub declarators-known : (ds : List Declarator) → every presentKnown (declaratorRecords ds) ≡ true
-unfolding declaratorRecords everyFrom
-declarators-known [] = refl
-declarators-known (d ∷ ds) =
-    every-more presentKnown (record { name = d .name; present = isGiven (d .initializer) }) (declaratorRecords ds) (given-known (d .initializer)) (declarators-known ds)
 
 statement-good : (s : Statement) → goodStatement (statementRecord s) ≡ true
 unfolding goodStatement statementRecord statementNumber declaratorsIn

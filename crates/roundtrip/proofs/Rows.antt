@@ -11,12 +11,6 @@ unfolding joined
 joined-none none = refl
 joined-none (more t ts) = ap (more t) (joined-none ts)
 
--- three rows, joined in either order
-pub joined-joined : (ts us vs : Trees) → joined (joined ts us) vs ≡ joined ts (joined us vs)
-unfolding joined
-joined-joined none us vs = refl
-joined-joined (more t ts) us vs = ap (more t) (joined-joined ts us vs)
-
 -- two rows have as many trees as both
 pub count-joined : (ts us : Trees) → count (joined ts us) ≡ count ts + count us
 unfolding count joined

@@ -93,12 +93,6 @@ module _ {A : Type 0} {readAt : List ℕ → ℕ → A} {bytes : A → List ℕ}
     pub print-all-in : (n at : ℕ) → at + len * n ≤ length bs → take at bs ++ (bytesOf bytes (recordsFrom (readAt bs) len n at) ++ drop (at + len * n) bs) ≡ bs
     print-all-in n at h = ap (λ (l : List ℕ). take at bs ++ l) (print-all n at h) ∙ take-append-drop at bs
 
--- the bytes of two lists of records
-pub bytesOf-append : {A : Type 0} (bytes : A → List ℕ) (xs ys : List A) → bytesOf bytes (xs ++ ys) ≡ bytesOf bytes xs ++ bytesOf bytes ys
-unfolding bytesOf
-bytesOf-append bytes [] ys = refl
-bytesOf-append bytes (x ∷ xs) ys = rw (bytesOf-append bytes xs ys, append-assoc)
-
 -- n records and k more behind them
 pub recordsFrom-add : {A : Type 0} (readAt : ℕ → A) (len n k at : ℕ) → recordsFrom readAt len (n + k) at ≡ recordsFrom readAt len n at ++ recordsFrom readAt len k (at + len * n)
 unfolding recordsFrom

@@ -1,7 +1,7 @@
 -- The loop over the declarators: what is left to search, and that the rules say the same of it.
 use Prim.Native.Nat.{ℕ, suc, _+_, _*_, _-_, _≤_, _<_}
 use native.Mathlib.Omega.{arith}
-use mathlib.Core.Bool.{Bool, true, false, cond, _&&_, not}
+use mathlib.Core.Bool.{Bool, true, false, cond, _&&_}
 use mathlib.Core.List.{List, [], _∷_, _++_, append-assoc}
 use mathlib.Core.Path.{_≡_, refl, sym, ap, _∙_, subst}
 use lib.ListN.{length, getD, length-append}
@@ -22,14 +22,6 @@ use Rattle.search.specs.Kept.{laidInitializer, nodesOf, bareInitializer,
 use Rattle.search.specs.Step.{Step, stepFrom}
 use Rattle.search.specs.FromDeclarators.{Standing, StandingRow, CanTry, Stepped, StepLeaves, Tries, CanSearch, Found, SearchesFrom}
 use Rattle.search.proofs.Steps.{Ends, Folds, step-ends, step-folds, step-size, kept-step-size}
-
-pub not-on : (b : Bool) → not b ≡ true → b ≡ false
-not-on true e = sym e
-not-on false e = refl
-
-pub not-off : (b : Bool) → not b ≡ false → b ≡ true
-not-off true e = refl
-not-off false e = sym e
 
 -- The trees of declarators, and the bytes behind them.
 initializer-split : (i : Initializer) (x : List ℕ) → laidInitializer i x ≡ laidInitializer i [] ++ x

@@ -26,7 +26,7 @@ use Rattle.search.specs.Kept.{nodesOf, laidDeclarators, nodesIn, bareDec
 use Rattle.search.specs.KeptStatements.{laidStatement, nodesOfStatement, bareStatement, laidKept, nodesKept, declaratorsKept, bareKept, HeldKept, KeepsBefore}
 use Rattle.search.specs.FromDeclarators.{CanSearch, Found, SearchesFrom}
 use Rattle.search.specs.InStatement.{CanSearchStatements, SearchedStatements, SearchesStatements}
-use Rattle.search.proofs.KeptRows.{kept-split, keptDeclaration, Last, searched, last-record, last, row, held-written}
+use Rattle.search.proofs.KeptRows.{kept-split, keptDeclaration, Last, declared, no-using, last-record, last, row, held-written}
 
 -- The declarators that a search leaves are the first of those that it was given: what holds of these, and of the earlier ones
 -- wherever it holds of some, holds of those that are left.
@@ -69,7 +69,7 @@ unfolding nodesOf initializerSize
 nodes-of bare = refl
 nodes-of (given t) = refl
 
-nodes-in : (ds : List Declarator) → nodesIn ds ≡ total declaratorSize ds
+pub nodes-in : (ds : List Declarator) → nodesIn ds ≡ total declaratorSize ds
 unfolding nodesIn total declaratorSize
 nodes-in [] = refl
 nodes-in (d ∷ ds) = omega (arith, nodes-in ds, nodes-of (d .initializer))
@@ -245,14 +245,14 @@ module _ {table table′ records starts statements : List ℕ} {count many start
 module _ {table records starts statements : List ℕ} {count many start used : ℕ} {target : Tree} {rest : List ℕ} {s : StatementRecord} where
   counted : {ks : List Kept} → KeepsBefore table records starts statements count many start used ks target rest → Last s ks → s .declarators ≤ many
   unfolding statementRecord declaratorsIn declaratorsKept
-  counted h (searched number kind ds ks u d) =
+  counted h (declared number kind ds ks d) =
       let n : s .declarators ≡ length ds = ap (λ (x : StatementRecord). x .declarators) d in
       omega (arith, n, h .kept .counted .declarators)
 
   can-search : {low : ℕ} {ks : List Kept} → KeepsBefore table records starts statements count many start used ks target rest → Last s ks
       → low ≡ many - s .declarators → 16 * used + 16 * many ≤ length table → CanSearch table records starts low many start used
   unfolding statementRecord declaratorsIn
-  can-search {low} h (searched number kind ds ks u d) e room =
+  can-search {low} h (declared number kind ds ks d) e room =
       let t = row number kind ds ks low h (e ∙ ap (λ (x : StatementRecord). many - x .declarators) d) .1 in
       (nodesKept ks, reverse ds, target, laidKept ks [], rest, t, omega (arith, room, t .counted))
 
@@ -271,7 +271,7 @@ module _ (ctx : Context) {table table′ records starts statements : List ℕ} {
   pub fewer : {s : StatementRecord} {ks : List Kept} → KeepsBefore table records starts statements count many start used ks target rest → Last s ks → low ≡ many - s .declarators
       → (r .used + r .many ≤ used + many) × (r .folds + r .many ≡ many) × (low ≤ r .many)
   unfolding statementRecord declaratorsIn
-  fewer h (searched number kind ds ks u d) e =
+  fewer h (declared number kind ds ks d) e =
       let w = fromLast ctx number kind ds ks target in
       let l : low ≡ many - length ds = e ∙ ap (λ (x : StatementRecord). many - x .declarators) d in
       let f = found number kind ds ks h l .1 in
@@ -284,16 +284,16 @@ module _ (ctx : Context) {table table′ records starts statements : List ℕ} {
 
   -- all its declarators are folded: the search goes on with the statements before
   pub drops : {folds : ℕ} {w : FromStatements} {s : StatementRecord} {ks : List Kept}
-      → Goes ctx table records starts statements count many start used folds w ks target rest → Last s ks → low ≡ many - s .declarators → r .many ≤ low
+      → Goes ctx table records starts statements count many start used folds w ks target rest → Last s ks → s .kind ≤ 2 → low ≡ many - s .declarators → r .many ≤ low
       → (ks′ : List Kept) × (target′ : Tree) × (rest′ : List ℕ)
       × Goes ctx table′ records starts statements (count - 1) (r .many) (r .start) (r .used) (folds + r .folds) w ks′ target′ rest′
   unfolding statementRecord declaratorsIn
-  drops g (searched number kind ds ks u d) e n =
+  drops g (declared number kind ds ks d) p e n =
       let v = fromLast ctx number kind ds ks target in
       let l : low ≡ many - length ds = e ∙ ap (λ (x : StatementRecord). many - x .declarators) d in
       let f = found number kind ds ks (g .kept) l in
       let z : length (v .result .left) ≡ 0 = omega (arith, f .1 .many, n) in
-      let o = goes-on ctx number kind ds ks target u z in (
+      let o = goes-on ctx number kind ds ks target (no-using kind ds d p) z in (
         ks,
         v .result .target,
         f .0,
@@ -306,19 +306,19 @@ module _ (ctx : Context) {table table′ records starts statements : List ℕ} {
 
   -- some are left: the search ends, and the record is written anew
   pub keeps : {statements′ : List ℕ} {folds : ℕ} (w : FromStatements) {s : StatementRecord} {ks : List Kept}
-      → Goes ctx table records starts statements count many start used folds w ks target rest → Last s ks → low ≡ many - s .declarators → low < r .many
+      → Goes ctx table records starts statements count many start used folds w ks target rest → Last s ks → s .kind ≤ 2 → low ≡ many - s .declarators → low < r .many
       → Overwrites statements statements′ (4 * (count - 1)) (statementBytes (record { kind = s .kind; zero = 0; declarators = r .many - low }))
       → 4 * count ≤ length statements
       → (rest′ : List ℕ) × SearchedStatements table′ records starts statements′ (w .result .left) (w .result .target) (length (w .trace))
       (record { count = count; many = r .many; start = r .start; used = r .used; folds = folds + r .folds }) rest′
   unfolding statementRecord declaratorsIn statementNumber
-  keeps {statements′} w g (searched number kind ds ks u d) e n o room =
+  keeps {statements′} w g (declared number kind ds ks d) p e n o room =
       let v = fromLast ctx number kind ds ks target in
       let l : low ≡ many - length ds = e ∙ ap (λ (x : StatementRecord). many - x .declarators) d in
       let f = found number kind ds ks (g .kept) l in
       let t = row number kind ds ks low (g .kept) l in
       let z : 0 < length (v .result .left) = omega (arith, f .1 .many, n) in
-      let x = ends-here ctx number kind ds ks target u z in
+      let x = ends-here ctx number kind ds ks target (no-using kind ds d p) z in
       let held = left-have ctx (inFileOrder ks) kind (Held records starts low (nodesKept ks)) (held-shorter records starts low (nodesKept ks)) (nonScopedLiteralOnly ctx) (reverse ds) target (t .1 .held) in
       let o′ = subst (λ (y : StatementRecord). Overwrites statements statements′ (4 * (count - 1)) (statementBytes (record { kind = y .kind; zero = 0; declarators = r .many - low }))) d o in
       (f .0, gives w (keeps-it (g .kept) (t .0) (v .result .left) (f .1) held o′ room) (sym (x .0) ∙ g .result) (omega (arith, x .1, f .1 .folded, g .folded)))
@@ -360,14 +360,14 @@ module _ {ctx : Context} {table₀ table records starts statements₀ statements
         → SearchesStatements ctx table₀ table records starts statements₀ statements count many start used (record { count = kept; many = left; start = begin; used = end; folds = folds })
     at-end n = λ ks target rest h. let g = i .goes ks target rest h in (g .2, ends-at (g .0) (g .3) s s-is some n)
 
-    -- it is a declaration that is searched
-    module _ (plain : s .kind ≤ 2) where
+    -- it is a declaration
+    module _ (declaration : s .kind < 5) where
       module _ (c : CanSearchStatements table₀ records starts statements₀ count many start used) where
-        pub declared : s .declarators ≤ left
-        declared = let g = i .goes (c .0) (c .1) (c .2) (c .3) .3 in counted (g .kept) (last _ (g .kept) s s-is some plain)
+        pub fewer-declared : s .declarators ≤ left
+        fewer-declared = let g = i .goes (c .0) (c .1) (c .2) (c .3) .3 in counted (g .kept) (last _ (g .kept) s s-is some declaration)
 
         pub searchable : {low : ℕ} → low ≡ left - s .declarators → CanSearch table records starts low left begin end
-        searchable e = let g = i .goes (c .0) (c .1) (c .2) (c .3) .3 in can-search (g .kept) (last _ (g .kept) s s-is some plain) e (i .room)
+        searchable e = let g = i .goes (c .0) (c .1) (c .2) (c .3) .3 in can-search (g .kept) (last _ (g .kept) s s-is some declaration) e (i .room)
 
       module _ {literalOnly : Bool} {table′ : List ℕ} {low : ℕ} {r : Searched} (literal-is : literalOnly ≡ nonScopedLiteralOnly ctx) (low-is : low ≡ left - s .declarators)
           (searches : SearchesFrom ctx literalOnly table table′ records starts low left begin end r) where
@@ -376,12 +376,12 @@ module _ {ctx : Context} {table₀ table records starts statements₀ statements
 
         pub found-fewer : CanSearchStatements table₀ records starts statements₀ count many start used
             → (r .used + r .many ≤ end + left) × (r .folds + r .many ≡ left) × (low ≤ r .many)
-        found-fewer c = let g = i .goes (c .0) (c .1) (c .2) (c .3) .3 in fewer ctx after (g .kept) (last _ (g .kept) s s-is some plain) low-is
+        found-fewer c = let g = i .goes (c .0) (c .1) (c .2) (c .3) .3 in fewer ctx after (g .kept) (last _ (g .kept) s s-is some declaration) low-is
 
-        -- all its declarators were folded
-        pub next-turn : CanSearchStatements table₀ records starts statements₀ count many start used → length table′ ≡ length table → r .many ≤ low
+        -- it is searched: all its declarators were folded
+        pub next-turn : CanSearchStatements table₀ records starts statements₀ count many start used → s .kind ≤ 2 → length table′ ≡ length table → r .many ≤ low
             → Turn ctx table₀ table′ records starts statements₀ statements count many start used (kept - 1) (r .many) (r .start) (r .used) (folds + r .folds)
-        next-turn c l n =
+        next-turn c plain l n =
             let f = found-fewer c in
             record {
               same-table = l ∙ i .same-table;
@@ -391,15 +391,15 @@ module _ {ctx : Context} {table₀ table records starts statements₀ statements
               within = omega (arith, i .within);
               goes = λ ks target rest h.
                   let g = i .goes ks target rest h in
-                  drops ctx after (g .3) (last (g .0) (g .3 .kept) s s-is some plain) low-is n;
+                  drops ctx after (g .3) (last (g .0) (g .3 .kept) s s-is some declaration) plain low-is n;
             }
 
         -- some were not
-        pub at-kept : {statements′ : List ℕ} → low < r .many
+        pub at-kept : {statements′ : List ℕ} → s .kind ≤ 2 → low < r .many
             → Overwrites statements statements′ (4 * (kept - 1)) (statementBytes (record { kind = s .kind; zero = 0; declarators = r .many - low }))
             → 4 * count ≤ length statements₀
             → SearchesStatements ctx table₀ table′ records starts statements₀ statements′ count many start used
             (record { count = kept; many = r .many; start = r .start; used = r .used; folds = folds + r .folds })
-        at-kept n o l = λ ks target rest h.
+        at-kept plain n o l = λ ks target rest h.
             let g = i .goes ks target rest h in
-            keeps ctx after (substituteInStatement ctx ks target) (g .3) (last (g .0) (g .3 .kept) s s-is some plain) low-is n o (omega (arith, l, i .within, i .same-statements))
+            keeps ctx after (substituteInStatement ctx ks target) (g .3) (last (g .0) (g .3 .kept) s s-is some declaration) plain low-is n o (omega (arith, l, i .within, i .same-statements))

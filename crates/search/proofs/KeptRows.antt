@@ -1,18 +1,16 @@
 -- Statements that are kept: their bytes, and the row of declarators of the last. Assumes nothing.
 use mathlib.Core.Bool.{false}
-use mathlib.Core.Path.{_≡_, refl, sym, ap, ap₂, subst, _∙_}
+use mathlib.Core.Path.{_≡_, refl, sym, ap, subst, _∙_}
 use mathlib.Core.List.{List, [], _∷_, _++_, reverse, append-assoc}
 use Prim.Native.Nat.{ℕ, _+_, _*_, _-_, _≤_, _<_}
 use native.Mathlib.Omega.{arith}
-use lib.ListN.{length, getD, take, drop, length-reverse, length-take, length-drop, take-append-drop, List·getD-append}
-use Rattle.records.specs.Bytes.{u16At}
+use lib.ListN.{length, length-reverse}
 use Rattle.records.specs.Record.{statementAt, statementBytes}
 use Rattle.records.specs.Tree.{Tree}
 use Rattle.records.specs.File.{DeclarationKind, Var, Let, Const, Using, AwaitUsing, kindNumber, Declarator, Statement, declaration, expression, other, declaratorsIn, statementNumber, statementRecord}
 use Rattle.records.specs.declared.layout.StatementRecord.{StatementRecord}
 use Rattle.records.proofs.Tests.{both}
 use Rattle.roundtrip.proofs.Formats.{statement-reads}
-use Rattle.roundtrip.proofs.Series.{read-one-in}
 use Rattle.table.specs.Laid.{laid}
 use Rattle.table.proofs.Laid.{laid-length, laid-split}
 use Rattle.splice.specs.Blocks.{Overwrites}
@@ -22,6 +20,7 @@ use Rattle.search.specs.Kept.{laidDeclarators, bareDeclarators, Held}
 use Rattle.search.specs.KeptStatements.{laidStatement, nodesOfStatement, bareStatement, laidKept, nodesKept, declaratorsKept, bareKept, HeldKept, KeepsBefore}
 use Rattle.search.specs.FromDeclarators.{StandingRow}
 use Rattle.search.proofs.Going.{declarators-split, declarators-length}
+use Rattle.search.proofs.Written.{statement-before, written}
 
 -- the trees of statements, and the bytes behind them
 statement-split : (s : Statement) (x : List ℕ) → laidStatement s x ≡ laidStatement s [] ++ x
@@ -54,25 +53,27 @@ kept-length (k ∷ ks) x = omega (arith, kept-length ks (laidStatement (k .state
 abbrev pub keptDeclaration : ℕ → DeclarationKind → List Declarator → Kept
 keptDeclaration number kind ds = record { number = number; statement = declaration kind ds }
 
--- The last statement, where its record is that of a declaration that is no using.
+-- The last statement, where its record is that of a declaration.
 pub data Last (s : StatementRecord) : List Kept → Type 0 where
-  searched : (number : ℕ) (kind : DeclarationKind) (ds : List Declarator) (ks : List Kept) → isUsing kind ≡ false
+  declared : (number : ℕ) (kind : DeclarationKind) (ds : List Declarator) (ks : List Kept)
       → s ≡ statementRecord (declaration kind ds) → Last s (keptDeclaration number kind ds ∷ ks)
 
-no-using : (kind : DeclarationKind) → kindNumber kind ≤ 2 → isUsing kind ≡ false
-unfolding kindNumber isUsing
-no-using Var h = refl
-no-using Let h = refl
-no-using Const h = refl
-no-using Using h = absurd (omega arith)
-no-using AwaitUsing h = absurd (omega arith)
+-- it is no using, by its kind
+pub no-using : {s : StatementRecord} (kind : DeclarationKind) (ds : List Declarator) → s ≡ statementRecord (declaration kind ds) → s .kind ≤ 2 → isUsing kind ≡ false
+unfolding statementRecord statementNumber kindNumber isUsing
+no-using {s} kind ds e h = by kind (omega (arith, h, ap (λ (r : StatementRecord). r .kind) e))
+  where
+    by : (kind : DeclarationKind) → kindNumber kind ≤ 2 → isUsing kind ≡ false
+    by Var h = refl
+    by Let h = refl
+    by Const h = refl
+    by Using h = absurd (omega arith)
+    by AwaitUsing h = absurd (omega arith)
 
-last-of : (s : StatementRecord) (number : ℕ) (x : Statement) (ks : List Kept) → s ≡ statementRecord x → s .kind ≤ 2
+last-of : (s : StatementRecord) (number : ℕ) (x : Statement) (ks : List Kept) → s ≡ statementRecord x → s .kind < 5
     → Last s (record { number = number; statement = x } ∷ ks)
 unfolding statementRecord statementNumber
-last-of s number (declaration kind ds) ks e h =
-    let k : s .kind ≡ kindNumber kind = ap (λ (r : StatementRecord). r .kind) e in
-    searched number kind ds ks (no-using kind (omega (arith, h, k))) e
+last-of s number (declaration kind ds) ks e h = declared number kind ds ks e
 last-of s number (expression t) ks e h =
     let k : s .kind ≡ 5 = ap (λ (r : StatementRecord). r .kind) e in
     absurd (omega (arith, h, k))
@@ -90,7 +91,7 @@ module _ {table records starts statements : List ℕ} {count many start used : �
       ap (statementAt statements) (omega (arith, c)) ∙ h .kept .held .0
 
   pub last : (ks : List Kept) → KeepsBefore table records starts statements count many start used ks target rest
-      → (s : StatementRecord) → s ≡ statementAt statements (4 * (count - 1)) → 0 < count → s .kind ≤ 2 → Last s ks
+      → (s : StatementRecord) → s ≡ statementAt statements (4 * (count - 1)) → 0 < count → s .kind < 5 → Last s ks
   last [] h s e p t = let c = h .kept .counted .statements in absurd (omega arith)
   last (k ∷ ks) h s e p t = last-of s (k .number) (k .statement) ks (e ∙ last-record k ks h) t
 
@@ -117,40 +118,18 @@ module _ {table records starts statements : List ℕ} {count many start used : �
         },
       )
 
--- the records of the statements before a place stay as they are, whatever is written from there on
-byte-before : (p x y : List ℕ) (i : ℕ) → i < length p → getD (p ++ x) i 0 ≡ getD (p ++ y) i 0
-byte-before p x y i h = List·getD-append p x 0 i h ∙ sym (List·getD-append p y 0 i h)
+-- statements whose records are read as before are held as before
+pub held-same : (records starts statements statements′ : List ℕ) (ks : List Kept)
+    → ((i : ℕ) → i < length ks → statementAt statements′ (4 * i) ≡ statementAt statements (4 * i))
+    → HeldKept records starts statements ks → HeldKept records starts statements′ ks
+unfolding HeldKept
+held-same records starts statements statements′ [] e h = tt
+held-same records starts statements statements′ (k ∷ ks) e h = (e (length ks) (omega arith) ∙ h .0, h .1, held-same records starts statements statements′ ks (λ i l. e i (omega arith)) (h .2))
 
-record-before : (p x y : List ℕ) (at : ℕ) → at + 4 ≤ length p → statementAt (p ++ x) at ≡ statementAt (p ++ y) at
-unfolding statementAt u16At
-record-before p x y at h =
-    rw (
-      byte-before p x y at (omega arith),
-      byte-before p x y (at + 1) (omega arith),
-      byte-before p x y (at + 2) (omega arith),
-      byte-before p x y (at + 2 + 1) (omega arith),
-    )
-
-module _ (records starts : List ℕ) where
-  held-before : (p x y : List ℕ) (ks : List Kept) → 4 * length ks ≤ length p
-      → HeldKept records starts (p ++ x) ks → HeldKept records starts (p ++ y) ks
-  unfolding HeldKept
-  held-before p x y [] l h = tt
-  held-before p x y (k ∷ ks) l h =
-      (record-before p y x (4 * length ks) (omega arith) ∙ h .0, h .1, held-before p x y ks (omega arith) (h .2))
-
-  -- a record written behind them is read there
-  pub held-written : {statements statements′ : List ℕ} (ks : List Kept) (at : ℕ) (s : StatementRecord)
-      → at ≡ 4 * length ks → at + 4 ≤ length statements → Overwrites statements statements′ at (statementBytes s) → HeldKept records starts statements ks
-      → (statementAt statements′ (4 * length ks) ≡ s) × HeldKept records starts statements′ ks
-  held-written {statements} ks at s e l o h =
-      let p = take at statements in
-      let x = take 4 (drop at statements) in
-      let y = drop 4 (drop at statements) in
-      let is : statements ≡ p ++ (x ++ y) =
-      sym (take-append-drop at statements) ∙ ap (λ (t : List ℕ). p ++ t) (sym (take-append-drop 4 (drop at statements))) in
-      let lp : length p ≡ at = length-take at statements ∙ omega arith in
-      let w = o p x y is lp (length-take 4 (drop at statements) ∙ omega (arith, length-drop at statements, statement-reads .measured s)) in (
-        ap₂ statementAt w (sym e ∙ sym lp) ∙ read-one-in statement-reads p s y,
-        subst (λ (t : List ℕ). HeldKept records starts t ks) (sym w) (held-before p (x ++ y) (statementBytes s ++ y) ks (omega arith) (subst (λ (t : List ℕ). HeldKept records starts t ks) is h)),
-      )
+-- a record written behind them is read there
+pub held-written : (records starts : List ℕ) {statements statements′ : List ℕ} (ks : List Kept) (at : ℕ) (s : StatementRecord)
+    → at ≡ 4 * length ks → at + 4 ≤ length statements → Overwrites statements statements′ at (statementBytes s) → HeldKept records starts statements ks
+    → (statementAt statements′ (4 * length ks) ≡ s) × HeldKept records starts statements′ ks
+held-written records starts {statements} {statements′} ks at s e l o h =
+    let (x, y) = written statement-reads statement-before s at (length ks) e l o in
+    (x, held-same records starts statements statements′ ks y h)

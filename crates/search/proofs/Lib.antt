@@ -2,5 +2,6 @@
 pub mod Steps
 pub mod Going
 pub mod Trying
+pub mod Written
 pub mod KeptRows
 pub mod InStatements

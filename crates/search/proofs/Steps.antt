@@ -7,6 +7,7 @@ use mathlib.Core.Path.{_≡_, refl, sym, ap, _∙_}
 use lib.ListN.{length}
 use Rattle.records.specs.Tree.{Tree, size}
 use Rattle.records.specs.File.{DeclarationKind, Initializer, bare, given, Declarator, Statement}
+use Rattle.records.proofs.Tests.{clash}
 use Rattle.walk.specs.Context.{Context}
 use Rattle.walk.specs.Substitute.{Answer, replaced, stopped, passed, substituteInExpression}
 use Rattle.walk.specs.Looks.{looksInExpression}
@@ -15,9 +16,6 @@ use Rattle.statements.specs.Trace.{Fold, Traced, pure, looked, folded}
 use Rattle.statements.specs.Declarators.{endsSearch, Searched, ended, FromDeclarators, foldOf, afterAnswer, fromDeclarator, substituteFromDeclarators}
 use Rattle.search.specs.Kept.{nodesOf}
 use Rattle.search.specs.Step.{Step, byAnswer, stepFrom}
-
-pub clash : {A : Type 0} (b : Bool) → b ≡ false → b ≡ true → A
-clash b e g = absurd (let z : _≡_ {A = ℕ} 0 1 = cc in omega arith)
 
 -- the search ends at a declarator
 pub record Ends (d : Declarator) (earlier : List Declarator) (w : FromDeclarators) (t : Tree) : Type 0 where

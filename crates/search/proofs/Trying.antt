@@ -10,7 +10,7 @@ use Rattle.records.specs.Tree.{Tree, Trees, node, none, more, count, size, size
 use Rattle.records.specs.File.{Initializer, bare, given, isGiven}
 use Rattle.records.specs.declared.layout.DeclaratorRecord.{DeclaratorRecord}
 use Rattle.records.specs.declared.layout.NodeRecord.{NodeRecord}
-use Rattle.records.proofs.Tests.{both}
+use Rattle.records.proofs.Tests.{both, clash}
 use Rattle.table.specs.Table.{workBytes}
 use Rattle.table.specs.Laid.{laid, laids, At, TreeAt, Stands}
 use Rattle.table.proofs.Laid.{laid-length, laid-split, laids-length, work-length, room-node}
@@ -29,7 +29,6 @@ use Rattle.search.specs.declared.declarator.Tried.{Tried}
 use Rattle.search.specs.Kept.{laidInitializer, nodesOf, bareInitializer}
 use Rattle.search.specs.Step.{Step, byAnswer, stepFrom}
 use Rattle.search.specs.FromDeclarators.{Standing, CanTry, StepLeaves, Stepped, Tries}
-use Rattle.search.proofs.Steps.{clash}
 
 none-given : isGiven bare ≡ 0
 unfolding isGiven
@@ -48,12 +47,6 @@ unfolding inOrder
 replaced-found (replaced t′) (replaces {held = held} {name = name} {between = between} {after = after} e f) h = (t′, held, name, between, after, refl, f)
 replaced-found (stopped t′) (stops e x y z u) h = is-replaced e refl h
 replaced-found passed (passes e x y z) h = is-replaced e refl h
-
--- an initializer by the record
-given-is : (i : Initializer) → eqb (isGiven i) 1 ≡ true → (t : Tree) × (i ≡ given t)
-unfolding isGiven
-given-is bare e = clash false refl e
-given-is (given t) e = (t, refl)
 
 bare-is : (i : Initializer) → eqb (isGiven i) 1 ≡ false → i ≡ bare
 unfolding isGiven

@@ -1,4 +1,5 @@
-// The search of a tree from the declarators before it, the last first.
+// The search of a tree from the declarators before it, the last first: the Rust's
+// `substitute_single_use_symbol_in_expression_from_declarators`.
 ghost use mathlib.Core.Path.{_≡_};
 ghost use Prim.Native.Nat.{_*_, _≤_};
 ghost use lib.ListN.{length};

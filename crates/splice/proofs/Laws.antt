@@ -17,7 +17,9 @@ use Rattle.table.proofs.Laid.{work-reads, work-length, laid-length, laid-split}
 use Rattle.walk.specs.Substitute.{at, preserveIndirectAccess}
 use Rattle.walk.proofs.Sizes.{size-at}
 use Rattle.splice.specs.Blocks.{Exchanges, Overwrites, sequenceRecord, literalRecord, KeepsIndirect}
+use Rattle.splice.specs.Copies.{Copies}
 use Rattle.splice.specs.Splice.{Before, After, substituted}
+use Rattle.splice.proofs.Rotation.{Blocks, shifted-down}
 
 size-positive : (t : Tree) → 1 ≤ size t
 unfolding size
@@ -100,20 +102,26 @@ module _ {b0 : List ℕ} {from target place used : ℕ} {t : Tree} {name : NodeR
         let written : b1 ≡ pre ++ laid root-set (between ++ tail) = laid-at pre (between ++ tail) (name .position) (16 * from) t (h .is) (h .starts) (rw ep at o) in
         x pre (laid root-set []) between tail (written ∙ rw (laid-split root-set (between ++ tail))) (h .starts) (omega (arith, root-set-length, h .searched)) (h .found)
 
-    -- then the name's record goes behind what is in use
-    pub spliced : {b3 : List ℕ} {indirect : Bool} → indirect ≡ false → Exchanges b2 b3 (16 * place) (16 * place + 16) (16 * used)
-        → After b3 (used - 1) (substituted indirect (name .position) t) pre between after (workBytes name ++ rest)
+    -- then what is behind the name moves over its record
+    pub spliced : {b3 : List ℕ} {indirect : Bool} (from′ n : ℕ) → from′ ≡ 16 * place + 16 → n ≡ 16 * used - from′ → indirect ≡ false → Copies b2 b3 (16 * place) from′ n
+        → After b3 (used - 1) (substituted indirect (name .position) t) pre between after (drop (16 * place + n) b2)
     unfolding substituted tail root-set
-    spliced e y = rw e (record {
-      is = y (pre ++ (between ++ laid root-set [])) (workBytes name) after rest (moved ∙ simp append-assoc)
-          (omega (arith, h .starts, h .searched, h .found, root-set-length, length-append pre (between ++ laid root-set []), length-append between (laid root-set [])))
-          (omega (arith, work-length name)) (h .ends)
-          ∙ rw (laid-split root-set (after ++ (workBytes name ++ rest))) (simp append-assoc);
-      ends = omega (arith, h .starts, h .searched, h .found, h .ends, substituted-size false (name .position) t);
-    })
+    spliced {b3} from′ n ef en e k =
+        let front = pre ++ (between ++ laid root-set []) in
+        let b : Blocks b2 (16 * place) from′ (16 * used) front (workBytes name) after rest
+        = record {
+          is = moved ∙ simp append-assoc;
+          starts = omega (arith, h .starts, h .searched, h .found, root-set-length, length-append pre (between ++ laid root-set []), length-append between (laid root-set []));
+          seam = omega (arith, work-length name);
+          ends = omega (arith, h .ends);
+        } in
+        rw e (record {
+          is = shifted-down b b3 n en k ∙ rw (laid-split root-set (after ++ drop (16 * place + n) b2)) (simp append-assoc);
+          ends = omega (arith, h .starts, h .searched, h .found, h .ends, substituted-size false (name .position) t);
+        })
 
     -- or two records come before the initializer
-    pub spliced-indirect : {b3 : List ℕ} {indirect : Bool} → indirect ≡ true → 16 * used + 16 ≤ length b0 → KeepsIndirect b2 b3 (16 * from + (16 * place - 16 * target)) (16 * place) (16 * used) position
+    pub spliced-indirect : {b3 : List ℕ} {indirect : Bool} → indirect ≡ true → 16 * used + 16 ≤ length b0 → KeepsIndirect b2 b3 (16 * (from + (place - target))) (16 * place) (16 * used) position
         → After b3 (used + 1) (substituted indirect (name .position) t) pre between after (drop 16 rest)
     unfolding substituted tail root-set
     spliced-indirect e fits k = rw e (record {

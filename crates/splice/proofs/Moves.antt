@@ -1,46 +1,16 @@
--- Blocks of bytes that are moved and written. Assumes nothing.
-use mathlib.Core.Path.{_≡_, sym, ap, _∙_}
+-- Blocks and records that are written, and a tag that moves for two of them. Assumes nothing.
+use mathlib.Core.Path.{_≡_, refl, sym, ap, _∙_}
 use mathlib.Core.List.{List, _++_, append-assoc, append-nil}
 use Prim.Native.Nat.{ℕ, _+_, _-_}
 use native.Mathlib.Omega.{arith}
 use borrow.Rule.Slice.PartMut.{midOf, putMid}
-use lib.ListN.{length, take, drop, length-append, length-drop, length-reverse, drop-of-length-le}
-use lib.Seq.{take-at, drop-at, take-all}
-use Rattle.bytes.specs.Bytes.{rev, slice}
-use Rattle.bytes.proofs.Laws.{rev-rev-append}
+use lib.ListN.{length, take, drop, length-append, length-drop, take-append-drop, drop-of-length-le}
+use lib.Seq.{take-at, drop-at, take-all, take-length, length-take-le}
 use Rattle.table.specs.Table.{workBytes}
 use Rattle.table.proofs.Laid.{work-length}
-use Rattle.splice.specs.Blocks.{Exchanges, Overwrites, sequenceRecord, literalRecord, KeepsIndirect}
-
-rev-length : (m : List ℕ) → length (rev m) ≡ length m
-unfolding rev
-rev-length m = length-reverse m
-
--- a reversal, by the parts of the list
-module _ (p m s : List ℕ) (f t : ℕ) (hf : length p ≡ f) (ht : f + length m ≡ t) where
-  front : take f (p ++ (m ++ s)) ≡ p
-  front = take-at p (m ++ s) f hf
-
-  end : drop t (p ++ (m ++ s)) ≡ s
-  end = rw (← append-assoc p m s) (drop-at (p ++ m) s t (omega (arith, length-append p m)))
-
-  middle : slice f t (p ++ (m ++ s)) ≡ m
-  unfolding slice
-  middle = rw (← append-assoc p m s, take-at (p ++ m) s t (omega (arith, length-append p m))) (drop-at p m f hf)
-
-  reversed : {l r : List ℕ} → l ≡ p ++ (m ++ s) → r ≡ take f l ++ (rev (slice f t l) ++ drop t l) → r ≡ p ++ (rev m ++ s)
-  reversed e h = h ∙ rw (e, front, middle, end)
-
--- three reversals exchange two blocks
-pub exchanged : (a b c : ℕ) {l l1 l2 l3 : List ℕ}
-    → l1 ≡ take a l ++ (rev (slice a b l) ++ drop b l) → l2 ≡ take b l1 ++ (rev (slice b c l1) ++ drop c l1) → l3 ≡ take a l2 ++ (rev (slice a c l2) ++ drop c l2)
-    → Exchanges l l3 a b c
-exchanged a b c e1 e2 e3 = λ p x y s e ha hb hc.
-    let lx = rev-length x in
-    let s1 = reversed p x (y ++ s) a b ha hb e e1 in
-    let s2 = reversed (p ++ rev x) y s b c (length-append p (rev x) ∙ omega arith) hc (s1 ∙ sym (append-assoc p (rev x) (y ++ s))) e2 in
-    let s3 = reversed p (rev x ++ rev y) s a c ha (omega (arith, length-append (rev x) (rev y), rev-length y)) (s2 ∙ simp append-assoc) e3 in
-    s3 ∙ rw (rev-rev-append x y, append-assoc)
+use Rattle.splice.specs.Blocks.{Overwrites, sequenceRecord, literalRecord, KeepsIndirect}
+use Rattle.splice.specs.Copies.{Copies}
+use Rattle.splice.proofs.Rotation.{Blocks, left-over, left-over-length, shifted-up}
 
 -- a part from `at` on, whose first bytes were written anew
 pub overwritten : (at len : ℕ) (bs new ys : List ℕ) → length new ≡ len → ys ≡ new ++ drop len (midOf at (length bs - at) bs)
@@ -59,15 +29,38 @@ overwritten at len bs new ys el ey = λ p x s e hp hx.
       drop-at x s len (hx ∙ el),
     )
 
--- a tag, and two records that were placed before it
-pub kept-indirect : (a b c position : ℕ) {b0 b1 b2 b3 b4 : List ℕ} → Exchanges b0 b1 a b (b + 16) → Exchanges b1 b2 (a + 16) c (c + 16)
+-- so it is with a whole block that was copied there
+pub block-written : (at : ℕ) (bs block ys : List ℕ) → ys ≡ take (length block) block ++ drop (length block) (midOf at (length bs - at) bs)
+    → Overwrites bs (putMid at (length bs - at) bs ys) at block
+block-written at bs block ys e = overwritten at (length block) bs block ys refl (rw take-length at e)
+
+-- two blocks, written over one of their length
+two-written : {l l1 l2 : List ℕ} (a b : ℕ) (first second : List ℕ) → b ≡ a + length first → Overwrites l l1 a first → Overwrites l1 l2 b second
+    → (p v s : List ℕ) → l ≡ p ++ (v ++ s) → length p ≡ a → length v ≡ length first + length second → l2 ≡ p ++ (first ++ (second ++ s))
+two-written a b first second eb o1 o2 p v s e hp hv =
+    let n = length first in
+    let split : v ++ s ≡ take n v ++ (drop n v ++ s) = ap (λ z. z ++ s) (sym (take-append-drop n v)) ∙ append-assoc (take n v) (drop n v) s in
+    let e1 = o1 p (take n v) (drop n v ++ s) (e ∙ ap (λ z. p ++ z) split) hp (length-take-le n v (omega arith)) in
+    o2 (p ++ first) (drop n v) s (e1 ∙ sym (append-assoc p first (drop n v ++ s))) (length-append p first ∙ omega arith) (length-drop n v ∙ omega arith)
+    ∙ append-assoc p first (second ++ s)
+
+-- a tag moves up by two records, over a name and one that is free, and two others are written in its place
+tag-moved : {b1 b2 b3 b4 : List ℕ} (a b position to n : ℕ) (p tag name w s : List ℕ) → b1 ≡ (p ++ (tag ++ name)) ++ (w ++ s) → length p ≡ a → a + length tag ≡ b
+    → length name ≡ 16 → length w ≡ 16 → to ≡ a + 32 → n ≡ b - a → Copies b1 b2 to a n
+    → Overwrites b2 b3 a (workBytes (sequenceRecord position)) → Overwrites b3 b4 (a + 16) (workBytes (literalRecord position))
+    → b4 ≡ p ++ (workBytes (sequenceRecord position) ++ (workBytes (literalRecord position) ++ (tag ++ s)))
+tag-moved {b1} {b2} a b position to n p tag name w s e hp ht hn hw et en k o1 o2 =
+    let h : Blocks b1 a b (b + 32) p tag (name ++ w) s = record { is = e ∙ simp append-assoc; starts = hp; seam = ht; ends = omega (arith, length-append name w) } in
+    let one = work-length (sequenceRecord position) in
+    let other = work-length (literalRecord position) in
+    two-written a (a + 16) (workBytes (sequenceRecord position)) (workBytes (literalRecord position)) (omega (arith, one)) o1 o2 p (left-over h to) (tag ++ s)
+    (shifted-up h b2 to n (omega arith) en k) hp (omega (arith, one, other, left-over-length h to (omega arith)))
+
+-- a tag that is kept indirect: first what is behind the name moves up by one
+pub kept-indirect : (a b c position : ℕ) {b0 b1 b2 b3 b4 : List ℕ} (from to n tag-to tag-n : ℕ) → from ≡ b + 16 → to ≡ b + 32 → n ≡ c - from → tag-to ≡ a + 32 → tag-n ≡ b - a
+    → Copies b0 b1 to from n → Copies b1 b2 tag-to a tag-n
     → Overwrites b2 b3 a (workBytes (sequenceRecord position)) → Overwrites b3 b4 (a + 16) (workBytes (literalRecord position))
     → KeepsIndirect b0 b4 a b c position
-kept-indirect a b c position x1 x2 o1 o2 = λ p tag name after free s e hp ht hn ha hf.
-    let sequence = workBytes (sequenceRecord position) in
-    let long = work-length (sequenceRecord position) in
-    let e1 = x1 p tag name (after ++ (free ++ s)) e hp ht (omega arith) in
-    let e2 = x2 (p ++ name) (tag ++ after) free s (e1 ∙ simp append-assoc) (omega (arith, length-append p name)) (omega (arith, length-append tag after)) (omega arith) in
-    let e3 = o1 p name (free ++ ((tag ++ after) ++ s)) (e2 ∙ simp append-assoc) hp (hn ∙ sym long) in
-    let e4 = o2 (p ++ sequence) free ((tag ++ after) ++ s) (e3 ∙ simp append-assoc) (omega (arith, length-append p sequence)) (hf ∙ sym (work-length (literalRecord position))) in
-    e4 ∙ simp append-assoc
+kept-indirect a b c position {b0} {b1} from to n tag-to tag-n ef et en eg em k1 k2 o1 o2 = λ p tag name after free s e hp ht hn ha hf.
+    let h : Blocks b0 from c (c + 16) (p ++ (tag ++ name)) after free s = record { is = e ∙ simp append-assoc; starts = omega (arith, length-append p (tag ++ name), length-append tag name); seam = omega arith; ends = omega arith } in
+    tag-moved a b position tag-to tag-n p tag name (left-over h to) (after ++ s) (shifted-up h b1 to n (omega arith) en k1) hp ht hn (omega (arith, left-over-length h to (omega arith))) eg em k2 o1 o2

@@ -1,23 +1,14 @@
-// Moves and writes of bytes in the work table.
+// Records written in the work table.
 ghost use mathlib.Core.Path.{_≡_};
-ghost use Prim.Native.Nat.{_+_, _≤_};
+ghost use Prim.Native.Nat.{_+_, _*_, _≤_};
 ghost use lib.ListN.{length};
 ghost use Rattle.records.specs.Bytes.{u32Bytes};
 ghost use Rattle.table.specs.Table.{workBytes};
-ghost use Rattle.splice.specs.Blocks.{Exchanges, Overwrites, KeepsIndirect};
+ghost use Rattle.splice.specs.Blocks.{Overwrites, KeepsIndirect};
+use crate::shift::move_up;
 use records::layout::NodeRecord;
 use table::put_work_node;
 use writers::number::put_u32;
-
-// The blocks from a to b and from b to c, exchanged.
-pub(crate) fn rotate(nodes: &mut [u8], a: usize, b: usize, c: usize)
-    requires { ⌜ (a ≤ b) × (b ≤ c) × (c ≤ length (now nodes)) ⌝ }
-    ensures { λ _. ⌜ Exchanges (now (nodes .entry)) (now (nodes .exit)) a b c ⌝ }
-{
-    bytes::reverse(nodes, a, b);
-    bytes::reverse(nodes, b, c);
-    bytes::reverse(nodes, a, c);
-}
 
 // Gives the record that begins at `at` a position.
 pub(crate) fn put_position(nodes: &mut [u8], at: usize, position: u32)
@@ -35,14 +26,15 @@ fn put_record(nodes: &mut [u8], at: usize, n: NodeRecord)
     put_work_node(&mut nodes[at..], n);
 }
 
-// Makes the tag from `tag` to `name` the second child of a sequence after a literal; the name's record, behind the tag, and
-// the one behind `end` give the room.
+// Makes the tag, the nodes from `tag` to `name`, the second child of a sequence after a literal; the name's record, behind
+// the tag, and the one behind `end` give the room.
 pub(crate) fn keep_indirect(nodes: &mut [u8], tag: usize, name: usize, end: usize, position: u32)
-    requires { ⌜ (tag ≤ name) × (name + 16 ≤ end) × (end + 16 ≤ length (now nodes)) ⌝ }
-    ensures { λ _. ⌜ KeepsIndirect (now (nodes .entry)) (now (nodes .exit)) tag name end position ⌝ }
+    requires { ⌜ (tag ≤ name) × (name + 1 ≤ end) × (16 * end + 16 ≤ length (now nodes)) ⌝ }
+    ensures { λ _. ⌜ KeepsIndirect (now (nodes .entry)) (now (nodes .exit)) (16 * tag) (16 * name) (16 * end) position ⌝ }
 {
-    rotate(nodes, tag, name, name + 16);
-    rotate(nodes, tag + 16, end, end + 16);
+    let after = name + 1;
+    move_up(nodes, after + 1, after, end - after);
+    move_up(nodes, tag + 2, tag, name - tag);
     let sequence = NodeRecord {
         kind: 28,
         flags: 0,
@@ -51,7 +43,7 @@ pub(crate) fn keep_indirect(nodes: &mut [u8], tag: usize, name: usize, end: usiz
         zero: 0,
         position: position,
     };
-    put_record(nodes, tag, sequence);
+    put_record(nodes, 16 * tag, sequence);
     let literal = NodeRecord {
         kind: 1,
         flags: 0,
@@ -60,5 +52,5 @@ pub(crate) fn keep_indirect(nodes: &mut [u8], tag: usize, name: usize, end: usiz
         zero: 0,
         position: position,
     };
-    put_record(nodes, tag + 16, literal);
+    put_record(nodes, 16 * tag + 16, literal);
 }

@@ -1,5 +1,7 @@
 // Moves an initializer in the work table to the place of the name that it replaces.
 mod blocks;
+mod rotate;
+mod shift;
 
 ghost use mathlib.Core.Bool.{true};
 ghost use mathlib.Core.Path.{_≡_};
@@ -8,7 +10,8 @@ ghost use lib.ListN.{length};
 ghost use Rattle.splice.specs.Splice.{HoldsName, Splices};
 use crate::blocks::keep_indirect;
 use crate::blocks::put_position;
-use crate::blocks::rotate;
+use crate::rotate::rotate;
+use crate::shift::move_down;
 use records::layout::NodeId;
 use records::layout::node_at;
 
@@ -28,17 +31,22 @@ pub fn splice(
     ensures { λ _. ⌜ length (now (nodes .exit)) ≡ length (now (nodes .entry)) ⌝ }
 {
     let first = 16 * from.0;
-    let searched = 16 * target.0;
     let found = 16 * place.0;
-    let end = 16 * used;
     let name = node_at(nodes, found);
     let position = name.position;
     put_position(nodes, first, position);
-    rotate(nodes, first, searched, found);
+    rotate(nodes, from.0, target.0, place.0);
     if indirect {
-        keep_indirect(nodes, first + (found - searched), found, end, position);
+        keep_indirect(
+            nodes,
+            from.0 + (place.0 - target.0),
+            place.0,
+            used,
+            position,
+        );
         return used + 1;
     }
-    rotate(nodes, found, found + 16, end);
+    let after = place.0 + 1;
+    move_down(nodes, place.0, after, used - after);
     used - 1
 }

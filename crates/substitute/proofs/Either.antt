@@ -1,12 +1,13 @@
 -- A branch in which the search ended, and the other one.
 use Prim.Native.Nat.{_+_}
-use mathlib.Core.Bool.{Bool, true, false, cond, _||_}
+use mathlib.Core.Bool.{Bool, true, false, cond}
 use mathlib.Core.Path.{_≡_, refl, sym, ap, _∙_}
+use Rattle.records.proofs.Tests.{clash}
 use Rattle.plans.specs.declared.walked.Answer.{Answer}
 use Rattle.plans.specs.declared.walked.Answer.the-variants.{Replaced, Stopped, Passed}
 use Rattle.plans.specs.declared.walked.Walked.{Walked}
 use Rattle.plans.specs.Answers.{isReplaced, Either}
-use Rattle.plans.proofs.Planning.{clash}
+use Rattle.substitute.specs.OfNode.{gather}
 
 replaced-is : (a : Answer) → isReplaced a ≡ true → a ≡ Replaced
 replaced-is Replaced e = refl
@@ -14,7 +15,7 @@ replaced-is Stopped e = clash false refl e
 replaced-is Passed e = clash false refl e
 
 module _ (a b r : Walked) where
-  pub either-replaced : r ≡ record { answer = b .answer; next = b .next; effect = a .effect || b .effect; place = b .place; indirect = b .indirect; looks = a .looks + b .looks } → isReplaced (b .answer) ≡ true → Either a b r
+  pub either-replaced : r ≡ gather false (a .looks) b → isReplaced (b .answer) ≡ true → Either a b r
   either-replaced e h = record {
     answer = ap (λ w. w .answer) e ∙ replaced-is (b .answer) h ∙ sym (rw h refl);
     next = ap (λ w. w .next) e;

@@ -1,8 +1,12 @@
 -- Laws for the functions of the search.
 pub mod ClearedFlags
 pub mod Either
+pub mod Leaves
 pub mod Row
 pub mod OfNode
 pub mod Looking
 pub mod Searching
 pub mod Nodes
+pub mod Going
+pub mod Chain
+pub mod LinkKinds

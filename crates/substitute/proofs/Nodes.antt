@@ -6,12 +6,12 @@ use mathlib.Core.List.{List, [], _++_}
 use mathlib.Core.Path.{_≡_, refl, sym, ap, _∙_, subst}
 use lib.ListN.{length}
 use lib.Dec.{eqb}
-use borrow.Author.Tests.{eqb-true}
+use borrow.Author.Tests.{eqb-true, not-true}
 use Rattle.records.specs.Record.{nodeAt}
 use Rattle.records.specs.Tree.{Node, Tree, Trees, node, none, more, count, size, sizes, recordOf, nodeOf}
 use Rattle.records.specs.declared.layout.NodeId.{NodeId}
 use Rattle.records.specs.declared.layout.NodeRecord.{NodeRecord}
-use Rattle.records.proofs.Tests.{both, and-left, and-right}
+use Rattle.records.proofs.Tests.{both, and-left, and-right, clash}
 use Rattle.table.specs.Laid.{laid, laids, At, TreeAt, RowStands}
 use Rattle.table.proofs.Laid.{room, first, beyond, whole}
 use Rattle.walk.specs.Context.{Context}
@@ -27,17 +27,13 @@ use Rattle.plans.specs.Plans.{isNothing}
 use Rattle.plans.specs.Answers.{isPassed, isReplaced}
 use Rattle.plans.specs.Described.{Describes, Known}
 use Rattle.plans.specs.Search.{bareNames, allBareNames, Searchable, SearchableRow, Did, passes, stops, replaces, alone, Searches, SearchesRow}
-use Rattle.plans.specs.Begins.{Behind, Begins, BeginsAt}
-use Rattle.substitute.specs.OfNode.{OfNode}
-use Rattle.plans.proofs.Planning.{clash}
+use Rattle.plans.specs.Begins.{Begins, BeginsAt}
+use Rattle.substitute.specs.OfNode.{behind, OfNode}
 use Rattle.plans.proofs.Behind.{all-bare}
 use Rattle.substitute.proofs.Row.{wrong, wrong-off, enters}
 use Rattle.substitute.proofs.Looking.{looks-most, all-looks-most}
-use Rattle.substitute.proofs.Searching.{bare-node, node-is, of-record}
-
--- a tree that was passed and the trees behind it, as one result
-pub both-behind : (a b r : Walked) → r ≡ record { answer = b .answer; next = b .next; effect = a .effect || b .effect; place = b .place; indirect = b .indirect; looks = a .looks + b .looks } → Behind (a .effect) b r
-both-behind a b r e = record { answer = ap (λ w. w .answer) e; next = ap (λ w. w .next) e; effects = ap (λ w. w .effect) e; place = ap (λ w. w .place) e; indirect = ap (λ w. w .indirect) e }
+use Rattle.substitute.proofs.Searching.{bare-node, node-is}
+use Rattle.substitute.proofs.OfNode.{node-of}
 
 -- One child is entered: the row's answer is its own.
 one-entered : (p : Plan) (t : Tree) (a : RuleAnswer Tree) → isNothing p ≡ false → byPlan (planned p) t none a passed ≡ alone t a
@@ -57,11 +53,7 @@ no-looks false k = omega arith
 pub is-one-of : (left : ℕ) (p : Plan) (b : Bool) → b ≡ (eqb left 1 && not (isNothing p)) → b ≡ true → (left ≡ 1) × (isNothing p ≡ false)
 is-one-of left p b e h =
     let (x, y) = both (eqb left 1) (not (isNothing p)) (sym e ∙ h) in
-    (eqb-true left 1 x, off (isNothing p) y)
-  where
-    off : (b : Bool) → not b ≡ true → b ≡ false
-    off true e = sym e
-    off false e = refl
+    (eqb-true left 1 x, not-true (isNothing p) y)
 
 module _ (ctx : Context) (s : Sought) {table table′ : List ℕ} {at : ℕ} {r : Walked} where
   pub one-searched : (left : ℕ) (p : Plan) → left ≡ 1 → isNothing p ≡ false → Searches ctx s table table′ at r → SearchesRow ctx s table table′ at left p r
@@ -74,15 +66,15 @@ module _ (ctx : Context) (s : Sought) {table table′ : List ℕ} {at : ℕ} {r 
   one-searched left p o n w replacement d pre (more t (more u us)) rest h c b = absurd (omega (arith, c, o))
 
 -- The search of a node that is no name: its children, from where the search begins on.
-module _ (ctx : Context) (s : Sought) {table table′ table″ : List ℕ} {at : NodeId} {g : Begun} {r a q : Walked} (n : NodeRecord) (e : n ≡ nodeAt table (16 * at .0)) (i : isSpecificId (s .name .0) (nodeOf n) ≡ false) (w : BeginsAt ctx table (at .0) s g) (k : g .indirect ≡ false) where
-  pub node-searched : SearchesRow ctx s table table′ (g .next .0) (g .left) (g .plan) r → Behind (g .effect) r a → a .looks ≡ r .looks → OfNode ctx table′ table″ (at .0) n (g .shape) (g .stops) s a q → Searches ctx s table table″ (at .0) q
+module _ (ctx : Context) (s : Sought) {table table′ table″ : List ℕ} {at : NodeId} {g : Begun} {r q : Walked} (n : NodeRecord) (e : n ≡ nodeAt table (16 * at .0)) (i : isSpecificId (s .name .0) (nodeOf n) ≡ false) (w : BeginsAt ctx table (at .0) s g) (k : g .indirect ≡ false) where
+  pub node-searched : SearchesRow ctx s table table′ (g .next .0) (g .left) (g .plan) r → OfNode ctx table′ table″ (at .0) n (g .stops) s (behind (g .effect) r) q → Searches ctx s table table″ (at .0) q
   unfolding substituteInExpression looksInExpression
-  node-searched v f l o replacement d pre (node m kids) rest t b =
+  node-searched v o replacement d pre (node m kids) rest t b =
       let (left, before, x) = w replacement d pre m kids rest t in
       let (y, z) = v replacement d before left rest (x .here) (x .many) (x .bare (bare-node m kids b .1)) in
-      let j : isSpecificId (s .name .0) m ≡ false = subst (λ c. isSpecificId (s .name .0) c ≡ false) (ap nodeOf (node-is e t) ∙ of-record m (count kids)) i in
-      let (u, c) = o replacement d pre m kids rest _ (node-is e t) (x .shape-is) (x .stops-is) (x .on k y f) in
-      rw j (u, c ∙ ap (λ z. ownLooks m + z) (l ∙ z ∙ x .looks k))
+      let j : isSpecificId (s .name .0) m ≡ false = subst (λ c. isSpecificId (s .name .0) c ≡ false) (ap nodeOf (node-is e t) ∙ node-of m (count kids)) i in
+      let (u, c) = o replacement d pre m kids rest _ (node-is e t) (x .stops-is) (x .on k y (record { answer = refl; next = refl; effects = refl; place = refl; indirect = refl })) in
+      rw j (u, c ∙ ap (λ z. ownLooks m + z) (z ∙ x .looks k))
 
 -- the children that are left, and how far they stand behind the node
 pub begun-row : (ctx : Context) {s : Sought} {table : List ℕ} {at : ℕ} {g : Begun} → BeginsAt ctx table at s g → Known s → Searchable table at → SearchableRow table (g .next .0) (g .left) × (at + 1 ≤ g .next .0)
@@ -107,13 +99,13 @@ size-least (node n kids) = omega arith
 
 module _ (ctx : Context) (s : Sought) {table table′ : List ℕ} {at many : ℕ} {r : Walked} where
   pub others-searchable : Known s → SearchableRow table at many → (many ≡ 0 → ⊥) → Searches ctx s table table′ at r → isReplaced (r .answer) ≡ false
-      → SearchableRow table′ (r .next .0) (many - 1) × (at + 1 ≤ r .next .0)
+      → SearchableRow table′ (r .next .0) (many - 1) × (at + 1 ≤ r .next .0) × (at + r .looks ≤ r .next .0)
   unfolding count
   others-searchable (replacement, d) (pre, none, rest, h, c, b) z w i = absurd (z (sym c))
   others-searchable (replacement, d) (pre, more t ts, rest, h, c, b) z w i =
       let (x, y) = w replacement d pre t (laids ts rest) (first h) (all-bare t ts b .0) in
       let (pre′, u, v) = next-row (substituteInExpression ctx (s .name .0) replacement t) x i in
-      ((pre′, ts, rest, u, omega (arith, c), all-bare t ts b .1), omega (arith, v, size-least t))
+      ((pre′, ts, rest, u, omega (arith, c), all-bare t ts b .1), omega (arith, v, size-least t), omega (arith, v, y, looks-most ctx (s .name .0) replacement t))
 
 -- the looks are fewer than the bytes of the table
 module _ (ctx : Context) (s : Sought) {table table′ : List ℕ} {at many : ℕ} {r : Walked} (p : Plan) where
@@ -129,6 +121,6 @@ module _ (ctx : Context) (s : Sought) {table table′ : List ℕ} {at : ℕ} {r 
       let (x, y) = w replacement d pre t rest h b in
       omega (arith, y, looks-most ctx (s .name .0) replacement t, room h)
 
--- the looks at two parts of a table come to fewer than its bytes
-pub sum-fits : (from to a b : ℕ) {long long′ : ℕ} → 16 * from + 16 * a ≤ long → 16 * to + 16 * b ≤ long′ → long′ ≡ long → long < 18446744073709551616 → a + b < 18446744073709551616
-sum-fits from to a b x y e z = omega (arith, x, y, e, z)
+-- a row begins within the table
+pub row-room : {table : List ℕ} {at many : ℕ} → SearchableRow table at many → 16 * at ≤ length table
+row-room (pre, ts, rest, h, c, b) = omega (arith, room h)

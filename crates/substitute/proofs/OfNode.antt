@@ -1,7 +1,7 @@
 -- What the search does of a node, from what it did of its children.
 use Prim.Native.Nat.{ℕ, suc, _+_, _*_}
 use native.Mathlib.Omega.{arith}
-use mathlib.Core.Bool.{Bool, true, false, cond, _||_}
+use mathlib.Core.Bool.{Bool, true, false, cond, _||_, or-false}
 use mathlib.Core.List.{List, [], _++_, append-assoc}
 use mathlib.Core.Path.{_≡_, refl, sym, ap, _∙_, subst}
 use lib.ListN.{length, length-append, set}
@@ -29,17 +29,13 @@ use Rattle.substitute.specs.OfNode.{OfNode}
 use Rattle.substitute.proofs.Row.{wrong, wrong-off}
 
 -- a node's record gives the node
-node-of : (n : Node) (k : ℕ) → nodeOf (recordOf n k) ≡ n
+pub node-of : (n : Node) (k : ℕ) → nodeOf (recordOf n k) ≡ n
 unfolding nodeOf recordOf
 node-of n k = refl
 
 -- the bytes of a node's record
 abbrev headOf : Node → Trees → List ℕ
 headOf n kids = workBytes (recordOf n (count kids))
-
-or-false : (x : Bool) → x ≡ (x || false)
-or-false true = refl
-or-false false = refl
 
 -- an effect is told where the trees were passed
 passed-effect : {table : List ℕ} {at : ℕ} {kids : Trees} {pre rest : List ℕ} {replacement : Tree} {a : Walked} {b : RuleAnswer Trees} → Did table at kids pre rest replacement a b → isPassed (a .answer) ≡ true → a .effect ≡ anyHasSideEffects kids
@@ -61,7 +57,7 @@ module _ {table : List ℕ} {at : ℕ} {pre rest : List ℕ} {replacement : Tree
   passing pass own (replaced kids′) (replaces e f) h o l r = wrong isPassed e refl h
   passing pass own (stopped kids′) (stops e x y z w) h o l r = wrong isPassed e refl h
   passing true own passed (passes e x y z) h o l r =
-      passes (ap (λ w. w .answer) r) (outside (count kids) refl x) (ap (λ w. w .next .0) r ∙ y ∙ omega arith) (ap (λ w. w .effect) r ∙ rw (o, z) (or-false (hasEffect n || anyHasSideEffects kids)))
+      passes (ap (λ w. w .answer) r) (outside (count kids) refl x) (ap (λ w. w .next .0) r ∙ y ∙ omega arith) (ap (λ w. w .effect) r ∙ rw (o, z) (sym (or-false (hasEffect n || anyHasSideEffects kids))))
   passing false own passed (passes e x y z) h o l r =
       stops (ap (λ w. w .answer) r) (outside (count kids) refl x) (ap (λ w. w .next .0) r ∙ y ∙ omega arith) refl refl
 
@@ -88,19 +84,20 @@ module _ {table : List ℕ} {at : ℕ} {pre rest : List ℕ} {replacement : Tree
   clearing pass (stopped kids′) (stops e x y z w) h l r = stops (ap (λ w. w .answer) r ∙ e) (clear-at n kids kids′ z x) (ap (λ w. w .next .0) r ∙ y ∙ omega arith) refl (omega (arith, w))
   clearing pass passed (passes e x y z) h l r = wrong-off isPassed e refl h
 
-module _ (ctx : Context) (table : List ℕ) (at : ℕ) (shape : Shape) (stops : Bool) (s : Sought) (a q : Walked) where
+module _ (ctx : Context) (table : List ℕ) (at : ℕ) (stops : Bool) (s : Sought) (a q : Walked) where
   -- whether the node may be passed, of a node and its children
-  may-pass-is : (own pass : Bool) (n : Node) (kids : Trees) (replacement : Tree) → Describes s replacement → own ≡ hasEffect n → MayPass ctx shape (recordOf n (count kids)) s own (a .effect) stops pass
+  may-pass-is : (shape : Shape) (own pass : Bool) (n : Node) (kids : Trees) (replacement : Tree) → Describes s replacement → own ≡ hasEffect n → MayPass ctx shape (recordOf n (count kids)) s own (a .effect) stops pass
       → a .effect ≡ anyHasSideEffects kids → shaped shape ≡ shapeOf n → stops ≡ stopsIn ctx replacement (shapeOf n) kids → pass ≡ mayPass ctx (s .name .0) replacement (shapeOf n) n kids
   unfolding nodeOf recordOf
-  may-pass-is own pass n kids replacement d o m k u v = m replacement d kids o k (v ∙ ap (λ z. stopsIn ctx replacement z kids) (sym u)) ∙ ap (λ z. mayPass ctx (s .name .0) replacement z n kids) u
+  may-pass-is shape own pass n kids replacement d o m k u v = m replacement d kids o k (v ∙ ap (λ z. stopsIn ctx replacement z kids) (sym u)) ∙ ap (λ z. mayPass ctx (s .name .0) replacement z n kids) u
 
-  pub of-passing : (r : NodeRecord) (own pass : Bool) (looks : ℕ) → own ≡ hasEffect (nodeOf r) → MayPass ctx shape r s own (a .effect) stops pass → looks ≡ ownLooks (nodeOf r) → isPassed (a .answer) ≡ true
-      → q ≡ byPassing pass (a .next) (own || a .effect) (looks + a .looks) → OfNode ctx table table at r shape stops s a q
-  of-passing r own pass looks o m l h e replacement d pre n kids rest b z u v w =
+  pub of-passing : (shape : Shape) (r : NodeRecord) (own pass : Bool) (looks : ℕ) → shaped shape ≡ shapeOf (nodeOf r) → own ≡ hasEffect (nodeOf r) → MayPass ctx shape r s own (a .effect) stops pass → looks ≡ ownLooks (nodeOf r) → isPassed (a .answer) ≡ true
+      → q ≡ byPassing pass (a .next) (own || a .effect) (looks + a .looks) → OfNode ctx table table at r stops s a q
+  of-passing shape r own pass looks i o m l h e replacement d pre n kids rest b z v w =
+      let u : shaped shape ≡ shapeOf n = subst (λ x. shaped shape ≡ shapeOf (nodeOf x)) z i ∙ ap shapeOf (node-of n (count kids)) in
       let o′ : own ≡ hasEffect n = subst (λ x. own ≡ hasEffect (nodeOf x)) z o ∙ ap hasEffect (node-of n (count kids)) in
       let l′ : looks ≡ ownLooks n = subst (λ x. looks ≡ ownLooks (nodeOf x)) z l ∙ ap ownLooks (node-of n (count kids)) in
-      let k = may-pass-is own pass n kids replacement d o′ (subst (λ x. MayPass ctx shape x s own (a .effect) stops pass) z m) (passed-effect w h) u v in
+      let k = may-pass-is shape own pass n kids replacement d o′ (subst (λ x. MayPass ctx shape x s own (a .effect) stops pass) z m) (passed-effect w h) u v in
       (subst (λ x. Did table at (more (node n kids) none) pre rest replacement q (alone (node n kids) (ofNode n kids x b))) k (passing n kids pass own b w h o′ (looks + a .looks) e), ap (λ w. w .looks) e ∙ looks-by pass ∙ ap (λ x. x + a .looks) l′)
     where
       looks-by : (pass : Bool) → byPassing pass (a .next) (own || a .effect) (looks + a .looks) .looks ≡ looks + a .looks
@@ -108,8 +105,8 @@ module _ (ctx : Context) (table : List ℕ) (at : ℕ) (shape : Shape) (stops : 
       looks-by false = refl
 
   pub of-clearing : (r : NodeRecord) (flags looks : ℕ) (table′ : List ℕ) → flags ≡ cleared (nodeOf r) .flags → table′ ≡ set table (16 * at + 1) flags → looks ≡ ownLooks (nodeOf r) → isPassed (a .answer) ≡ false
-      → q ≡ record { answer = a .answer; next = a .next; effect = a .effect; place = a .place; indirect = a .indirect; looks = looks + a .looks } → OfNode ctx table table′ at r shape stops s a q
-  of-clearing r flags looks table′ f t l h e replacement d pre n kids rest b z u v w =
+      → q ≡ record { answer = a .answer; next = a .next; effect = a .effect; place = a .place; indirect = a .indirect; looks = looks + a .looks } → OfNode ctx table table′ at r stops s a q
+  of-clearing r flags looks table′ f t l h e replacement d pre n kids rest b z v w =
       let f′ : flags ≡ cleared n .flags = subst (λ x. flags ≡ cleared (nodeOf x) .flags) z f ∙ ap (λ x. cleared x .flags) (node-of n (count kids)) in
       let l′ : looks ≡ ownLooks n = subst (λ x. looks ≡ ownLooks (nodeOf x)) z l ∙ ap ownLooks (node-of n (count kids)) in
       (subst (λ x. Did x at (more (node n kids) none) pre rest replacement q (alone (node n kids) (ofNode n kids (mayPass ctx (s .name .0) replacement (shapeOf n) n kids) b))) (sym (t ∙ ap (λ x. set table (16 * at + 1) x) f′)) (clearing n kids (mayPass ctx (s .name .0) replacement (shapeOf n) n kids) b w h (looks + a .looks) e), ap (λ w. w .looks) e ∙ ap (λ x. x + a .looks) l′)

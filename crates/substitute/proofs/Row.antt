@@ -1,13 +1,14 @@
 -- The search of a row, from what it did of the first tree and of the others.
 use Prim.Native.Nat.{ℕ, _+_, _*_, _-_}
 use native.Mathlib.Omega.{arith}
-use mathlib.Core.Bool.{Bool, true, false, cond, _||_}
+use mathlib.Core.Bool.{Bool, true, false, cond, _||_, or-false}
 use mathlib.Core.List.{List, [], _++_, append-assoc}
 use mathlib.Core.Path.{_≡_, refl, sym, ap, _∙_, subst}
 use lib.ListN.{length}
 use Rattle.records.specs.Tree.{Tree, Trees, node, none, more, count, size, sizes, joined}
 use Rattle.records.specs.declared.layout.NodeId.{NodeId}
 use Rattle.records.specs.declared.layout.NodeRecord.{NodeRecord}
+use Rattle.records.proofs.Tests.{clash}
 use Rattle.roundtrip.proofs.Rows.{count-joined, sizes-joined}
 use Rattle.table.specs.Table.{workBytes}
 use Rattle.table.specs.Laid.{laid, laids, At, TreeAt}
@@ -29,7 +30,6 @@ use Rattle.plans.specs.Answers.{isPassed, isReplaced, Either}
 use Rattle.plans.specs.Described.{Describes}
 use Rattle.plans.specs.Search.{bareNames, allBareNames, Found, Did, passes, stops, replaces, placed, alone, Searches, SearchesRow}
 use Rattle.plans.specs.Begins.{Behind}
-use Rattle.plans.proofs.Planning.{clash}
 use Rattle.plans.proofs.Behind.{all-bare, behind-first, found-behind}
 
 -- A plan that enters the first tree, by that tree's answer.
@@ -195,10 +195,6 @@ module _ (ctx : Context) (s : Sought) (replacement : Tree) (d : Describes s repl
     by-passed {table′} {r} {r′} {q} la lb passed b (passes e x y z) h w k =
         rw (plan-passed t ts b p n, looks-passed t ts b p n, enters t ts b p n)
         (behind-first (r .effect) (z ∙ or-false (mayHaveSideEffects t)) b (subst (λ k. Did table′ k ts (pre ++ laid t []) rest replacement r′ b) (y ∙ omega arith) w) k, refl)
-      where
-        or-false : (x : Bool) → (x || false) ≡ x
-        or-false true = refl
-        or-false false = refl
 
     -- the search ended in it
     pub stopped-rest : {r : Walked} (a : RuleAnswer Tree) → Did table at (more t none) pre (laids ts rest) replacement r (alone t a) → isPassed (r .answer) ≡ false → isReplaced (r .answer) ≡ false

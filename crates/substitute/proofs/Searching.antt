@@ -13,7 +13,7 @@ use Rattle.records.specs.File.{firstTree}
 use Rattle.records.specs.Place.{root, isExpression}
 use Rattle.records.specs.declared.layout.NodeId.{NodeId}
 use Rattle.records.specs.declared.layout.NodeRecord.{NodeRecord}
-use Rattle.records.proofs.Tests.{both, and-left, and-right}
+use Rattle.records.proofs.Tests.{both, and-left, and-right, clash}
 use Rattle.table.specs.Table.{workBytes}
 use Rattle.table.specs.Laid.{laid, laids, At, TreeAt, Stands, RowStands}
 use Rattle.table.proofs.Laid.{room, room-node, inside, first, beyond, whole, node-at, laids-split, work-length}
@@ -35,9 +35,9 @@ use Rattle.plans.specs.Described.{Describes, Known}
 use Rattle.plans.specs.Search.{bareNames, allBareNames, Searchable, SearchableRow, Found, Did, passes, stops, replaces, placed, alone, Searches, SearchesRow}
 use Rattle.plans.specs.Begins.{Behind, Begins, BeginsAt}
 use Rattle.substitute.specs.OfNode.{OfNode}
-use Rattle.plans.proofs.Planning.{clash}
 use Rattle.plans.proofs.Behind.{all-bare}
 use Rattle.substitute.proofs.Row.{wrong, wrong-off}
+use Rattle.substitute.proofs.OfNode.{node-of}
 use Rattle.substitute.proofs.Looking.{looks-most, all-looks-most}
 
 -- What the code may ask of a searchable tree and row.
@@ -75,10 +75,6 @@ some-kids x xs e = let z : count (more x xs) ≡ count none = ap count e in omeg
 -- a node from its record
 pub node-is : {table : List ℕ} {at : ℕ} {n : NodeRecord} {m : Node} {kids : Trees} {pre rest : List ℕ} → n ≡ nodeAt table (16 * at) → TreeAt table at (node m kids) pre rest → n ≡ recordOf m (count kids)
 node-is e t = e ∙ node-at t
-
-pub of-record : (m : Node) (k : ℕ) → nodeOf (recordOf m k) ≡ m
-unfolding nodeOf recordOf
-of-record m k = refl
 
 -- The name itself: it was found where it stands.
 name-kind : (name : ℕ) (m : Node) → isSpecificId name m ≡ true → is 4 m ≡ true
@@ -125,7 +121,7 @@ module _ (ctx : Context) (s : Sought) {table : List ℕ} {at : NodeId} where
 
   pub here-found : {r : Walked} (n : NodeRecord) → n ≡ nodeAt table (16 * at .0) → isSpecificId (s .name .0) (nodeOf n) ≡ true
       → r ≡ record { answer = Replaced; next = at; effect = false; place = at; indirect = false; looks = 1 } → Searches ctx s table table (at .0) r
-  here-found n e h q replacement d pre (node m kids) rest t b = here-alone m kids (subst (λ z. isSpecificId (s .name .0) z ≡ true) (ap nodeOf (node-is e t) ∙ of-record m (count kids)) h) b t q
+  here-found n e h q replacement d pre (node m kids) rest t b = here-alone m kids (subst (λ z. isSpecificId (s .name .0) z ≡ true) (ap nodeOf (node-is e t) ∙ node-of m (count kids)) h) b t q
 
 -- A tag that is the name, where a member is placed.
 tag-kind : (name : ℕ) (replacement : Tree) (m : Node) (kids : Trees) → keepsIndirect name replacement m kids ≡ true → (is 24 m ≡ true) × (isSpecificId name (root (firstTree kids)) ≡ true)
@@ -196,4 +192,4 @@ module _ (ctx : Context) (s : Sought) {table : List ℕ} {at : NodeId} where
       → r ≡ record { answer = Replaced; next = place; effect = false; place = place; indirect = true; looks = 2 } → Searches ctx s table table (at .0) r
   tag-here n place g e l i w k q replacement d pre (node m kids) rest t b =
       let (left, before, x) = w replacement d pre m kids rest t in
-      tag-alone place m kids l (subst (λ z. isSpecificId (s .name .0) z ≡ false) (ap nodeOf (node-is e t) ∙ of-record m (count kids)) i) (sym (x .indirect-is) ∙ k) (bare-node m kids b .1) t q
+      tag-alone place m kids l (subst (λ z. isSpecificId (s .name .0) z ≡ false) (ap nodeOf (node-is e t) ∙ node-of m (count kids)) i) (sym (x .indirect-is) ∙ k) (bare-node m kids b .1) t q

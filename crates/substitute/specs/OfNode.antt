@@ -1,28 +1,51 @@
 -- What is made of a node by what the search of its children did.
-use Prim.Native.Nat.{ℕ, _+_}
-use mathlib.Core.Bool.{Bool}
+use Prim.Native.Nat.{ℕ, _+_, _*_}
+use mathlib.Core.Bool.{Bool, true, false, _&&_, _||_}
 use mathlib.Core.List.{List, _++_}
 use mathlib.Core.Path.{_≡_}
+use lib.Dec.{eqb, ltb}
+use Rattle.records.specs.Record.{nodeAt}
 use Rattle.records.specs.Tree.{Node, Tree, Trees, node, none, more, count, recordOf, nodeOf}
 use Rattle.records.specs.declared.layout.NodeRecord.{NodeRecord}
 use Rattle.table.specs.Table.{workBytes}
 use Rattle.walk.specs.Context.{Context}
 use Rattle.walk.specs.Shape.{shape as shapeOf}
 use Rattle.walk.specs.Looks.{ownLooks}
-use Rattle.walk.specs.Substitute.{Answer as RuleAnswer, mayPass, ofNode}
-use Rattle.plans.specs.declared.shape.Shape.{Shape}
+use Rattle.walk.specs.Substitute.{Answer as RuleAnswer, isSpecificId, mayPass, ofNode}
 use Rattle.plans.specs.declared.sought.Sought.{Sought}
 use Rattle.plans.specs.declared.walked.Walked.{Walked}
-use Rattle.plans.specs.Shapes.{shaped}
+use Rattle.plans.specs.Answers.{isPassed}
 use Rattle.plans.specs.Described.{Describes}
 use Rattle.plans.specs.Passing.{stopsIn}
-use Rattle.plans.specs.Search.{Did, alone}
+use Rattle.plans.specs.Search.{Did, alone, Searches}
+
+-- a result behind trees that were passed: with their effect, and with their looks too
+abbrev pub behind : Bool → Walked → Walked
+behind effect a = record { next = a .next; place = a .place; looks = a .looks; answer = a .answer; effect = effect || a .effect; indirect = a .indirect }
+
+abbrev pub gather : Bool → ℕ → Walked → Walked
+gather effect looks a = record { next = a .next; place = a .place; looks = looks + a .looks; answer = a .answer; effect = effect || a .effect; indirect = a .indirect }
 
 -- what the search did of the tree, from what it did of its children
-abbrev pub OfNode : Context → List ℕ → List ℕ → ℕ → NodeRecord → Shape → Bool → Sought → Walked → Walked → Type 0
-OfNode ctx table table′ at r shape stops s a q =
+abbrev pub OfNode : Context → List ℕ → List ℕ → ℕ → NodeRecord → Bool → Sought → Walked → Walked → Type 0
+OfNode ctx table table′ at r stops s a q =
     (replacement : Tree) → Describes s replacement → (pre : List ℕ) (n : Node) (kids : Trees) (rest : List ℕ) (b : RuleAnswer Trees)
-    → r ≡ recordOf n (count kids) → shaped shape ≡ shapeOf n → stops ≡ stopsIn ctx replacement (shapeOf n) kids
+    → r ≡ recordOf n (count kids) → stops ≡ stopsIn ctx replacement (shapeOf n) kids
     → Did table (at + 1) kids (pre ++ workBytes (recordOf n (count kids))) rest replacement a b
     → Did table′ at (more (node n kids) none) pre rest replacement q (alone (node n kids) (ofNode n kids (mayPass ctx (s .name .0) replacement (shapeOf n) n kids) b))
     × (q .looks ≡ ownLooks n + a .looks)
+
+-- the same where the children are passed, and where they gave an answer, behind trees with this effect
+abbrev pub OfPassed : Context → NodeRecord → Bool → Sought → Bool → Walked → Walked → Type 0
+OfPassed ctx r stops s effect a q = isPassed (a .answer) ≡ true → (table : List ℕ) (at : ℕ) → OfNode ctx table table at r stops s (behind effect a) q
+
+abbrev pub OfAnswered : List ℕ → List ℕ → ℕ → NodeRecord → Bool → Walked → Walked → Type 0
+OfAnswered table table′ at r effect a q = isPassed (a .answer) ≡ false → (ctx : Context) (stops : Bool) (s : Sought) → OfNode ctx table table′ at r stops s (behind effect a) q
+
+-- a node without children, of a kind that never has any
+abbrev pub isLeaf : NodeRecord → Bool
+isLeaf n = eqb (n .children) 0 && (ltb (n .kind) 6 || eqb (n .kind) 27)
+
+-- what the search did of such a node that is not the name
+abbrev pub OfLeaf : Context → ℕ → NodeRecord → Sought → Walked → Type 0
+OfLeaf ctx at n s r = (table : List ℕ) → n ≡ nodeAt table (16 * at) → isLeaf n ≡ true → isSpecificId (s .name .0) (nodeOf n) ≡ false → Searches ctx s table table at r

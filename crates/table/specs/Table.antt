@@ -1,4 +1,4 @@
--- The work table: 16 bytes to a node, its record and an end, which is unknown as long as nobody asked for it.
+-- The work table: 16 bytes to a node, its record and an end, which is unknown.
 use Prim.Native.Nat.{ℕ}
 use mathlib.Core.List.{List, _++_}
 use Rattle.records.specs.Bytes.{u32Bytes}

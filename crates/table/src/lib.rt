@@ -1,22 +1,42 @@
-// The work table: 16 bytes to a node, its record and an end. Only this crate knows the length of a node's record in a file.
+// The work table: 16 bytes to a node, its record and an end. A file's node records are copied to it, and written from it.
 ghost use mathlib.Core.Path.{_≡_};
 ghost use mathlib.Core.List.{_++_};
 ghost use Prim.Native.Nat.{_+_, _*_, _≤_};
 ghost use lib.ListN.{length, drop, set};
 ghost use Rattle.records.specs.Record.{nodeAt, nodeBytes};
 ghost use Rattle.records.specs.Records.{recordsFrom, bytesOf};
+ghost use Rattle.records.specs.declared.layout.NodeRecord.{NodeRecord as NodeRecordOf};
 ghost use Rattle.table.specs.Table.{workBytes};
 use records::layout::NodeId;
 use records::layout::NodeRecord;
 use records::layout::node_at;
-use writers::put::put_node;
 use writers::record_bytes::node_bytes;
 
-// A record of the table, its end unknown.
-fn work_bytes(n: NodeRecord) -> [u8; 16]
-    ensures { λ r. ⌜ r ≡ workBytes n ⌝ }
+// The bytes of the node record at a place, as they stand there.
+fn record_at(s: &[u8], at: usize) -> [u8; 12]
+    requires { ⌜ at + 12 ≤ length (now s) ⌝ }
+    ensures { λ r. ⌜ r ≡ nodeBytes (nodeAt (now (s .entry)) at) ⌝ }
 {
-    let b = node_bytes(n);
+    [
+        s[at],
+        s[at + 1],
+        s[at + 2],
+        s[at + 3],
+        s[at + 4],
+        s[at + 5],
+        s[at + 6],
+        s[at + 7],
+        s[at + 8],
+        s[at + 9],
+        s[at + 10],
+        s[at + 11],
+    ]
+}
+
+// A record of the table, its end unknown.
+fn work_bytes(b: [u8; 12]) -> [u8; 16]
+    ensures { λ r. ⌜ ((n : NodeRecordOf) → b ≡ nodeBytes n → r ≡ workBytes n) ⌝ }
+{
     [
         b[0],
         b[1],
@@ -42,7 +62,17 @@ pub fn put_work_node(out: &mut [u8], n: NodeRecord)
     requires { ⌜ 16 ≤ length (now out) ⌝ }
     ensures { λ _. ⌜ now (out .exit) ≡ workBytes n ++ drop 16 (now (out .entry)) ⌝ }
 {
-    let record = work_bytes(n);
+    let record = work_bytes(node_bytes(n));
+    bytes::copy(&record, out);
+}
+
+// Lays the node record at a place of a file down at the start of `out`, as a record of the table.
+fn copy_node(file: &[u8], at: usize, out: &mut [u8])
+    requires { ⌜ at + 12 ≤ length (now file) ⌝ }
+    requires { ⌜ 16 ≤ length (now out) ⌝ }
+    ensures { λ _. ⌜ now (out .exit) ≡ workBytes (nodeAt (now (file .entry)) at) ++ drop 16 (now (out .entry)) ⌝ }
+{
+    let record = work_bytes(record_at(file, at));
     bytes::copy(&record, out);
 }
 
@@ -55,10 +85,19 @@ pub fn copy_nodes(file: &[u8], from: usize, count: usize, table: &mut [u8])
     let mut i = count;
     while 0 < i {
         i -= 1;
-        let n = node_at(file, from + 12 * i);
         let at = 16 * i;
-        put_work_node(&mut table[at..], n);
+        copy_node(file, from + 12 * i, &mut table[at..]);
     }
+}
+
+// Lays the record at a place of the table down at the start of `out`, as a file's node record.
+fn put_record(out: &mut [u8], table: &[u8], at: usize)
+    requires { ⌜ at + 12 ≤ length (now table) ⌝ }
+    requires { ⌜ 12 ≤ length (now out) ⌝ }
+    ensures { λ _. ⌜ now (out .exit) ≡ nodeBytes (nodeAt (now (table .entry)) at) ++ drop 12 (now (out .entry)) ⌝ }
+{
+    let record = record_at(table, at);
+    bytes::copy(&record, out);
 }
 
 // The node part of a file: lays the table's first `count` records down at the start of `out`.
@@ -70,9 +109,8 @@ pub fn put_nodes(out: &mut [u8], table: &[u8], count: usize)
     let mut i = count;
     while 0 < i {
         i -= 1;
-        let n = node_at(table, 16 * i);
         let at = 12 * i;
-        put_node(&mut out[at..], n);
+        put_record(&mut out[at..], table, 16 * i);
     }
 }
 

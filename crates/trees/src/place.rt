@@ -1,11 +1,12 @@
 // Row 8 of the refusal table, node by node: where a child may stand.
 ghost use mathlib.Core.Path.{_≡_};
+ghost use mathlib.Core.Bool.{true};
 ghost use Prim.Native.Nat.{_+_, _≤_};
 ghost use lib.ListN.{length};
 ghost use Rattle.records.specs.Records.{recordsFrom, every, everyFrom};
 ghost use Rattle.records.specs.Node.{isLink as isLinkKind};
 ghost use Rattle.records.specs.Place.{isExpression, mayStand, mayBeLoose};
-ghost use Rattle.trees.specs.Stack.{entry as entryOf, entryAt, childStands, rootStands};
+ghost use Rattle.trees.specs.Stack.{entry as entryOf, entryAt, childStands, rootStands, TakesExpressions};
 
 pub fn is_expression(kind: u16) -> bool
     ensures { λ r. ⌜ r ≡ isExpression kind ⌝ }
@@ -83,6 +84,13 @@ pub fn root_stands(e: u16) -> bool
     is_expression(e / 2) & !loose
 }
 
+// A kind under which an expression that isn't loose may be any child.
+pub fn takes_expressions(kind: u8) -> bool
+    ensures { λ r. ⌜ (r ≡ true → TakesExpressions kind) ⌝ }
+{
+    !((kind == 13) | (kind == 20) | (kind == 22) | (kind == 26))
+}
+
 // Whether the children, whose entries stand at `top`, may stand under their parent.
 pub fn children_stand(stack: &[u16], top: usize, count: usize, parent: u8, flags: u8) -> bool
     requires { ⌜ top + count ≤ length (now stack) ⌝ }
@@ -102,6 +110,9 @@ pub fn roots_stand(stack: &[u16], top: usize, count: usize) -> bool
     requires { ⌜ top + count ≤ length (now stack) ⌝ }
     ensures { λ r. ⌜ r ≡ every rootStands (recordsFrom (entryAt (now (stack .entry))) 1 count top) ⌝ }
 {
+    if count == 1 {
+        return root_stands(stack[top]);
+    }
     let mut good = true;
     let mut i = 0;
     while i < count {

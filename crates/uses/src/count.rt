@@ -34,11 +34,11 @@ pub fn name_read(n: NodeRecord, next: u16) -> u16
 {
     let name = n.kind == 4;
     let compound = (n.kind == 20) & (n.flags / 8 % 2 == 1);
-    let childless = n.children == 0;
     if name {
         return n.label;
     }
     if compound {
+        let childless = n.children == 0;
         if childless {
             return NO_NUMBER;
         }

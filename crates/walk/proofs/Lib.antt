@@ -3,4 +3,5 @@ pub mod Build
 pub mod Computed
 pub mod Facts
 pub mod Searches
+pub mod Tagged
 pub mod Sizes

@@ -2,15 +2,13 @@
 use Prim.Native.Nat.{ℕ, _+_, _≤_}
 use native.Mathlib.Omega.{arith}
 use mathlib.Core.Path.{_≡_, refl}
-use mathlib.Core.Bool.{Bool, true, false, cond, _&&_}
-use Rattle.records.specs.Flags.{computed}
+use mathlib.Core.Bool.{Bool, true, false, cond}
 use Rattle.records.specs.Tree.{Node, Tree, Trees, node, none, more, size, sizes}
 use Rattle.records.specs.File.{firstTree}
-use Rattle.records.specs.Place.{root}
 use Rattle.walk.specs.Context.{Context}
-use Rattle.walk.specs.Shape.{is, Choice, never, skips, cuts, picks, Shape, constant, identifier, targetName, leaf, chain, import, delete, sequence, property, stopping, assignment, steps, shape}
-use Rattle.walk.specs.Effect.{mayHaveSideEffects}
-use Rattle.walk.specs.Substitute.{Answer, replaced, stopped, passed, Plan, all, first, nothing, value, test, branches, tag, next, at, preserveIndirectAccess, asTag, inOrder, inBranches, byPlan, ofNode, isSpecificId, keepsIndirect, keepsCallee, stopsAtTarget, planFor, plan, substituteInExpression, substituteInChildren}
+use Rattle.walk.specs.Shape.{shape}
+use Rattle.walk.specs.Substitute.{Answer, replaced, stopped, passed, Plan, all, first, nothing, value, test, branches, tag, next, at, preserveIndirectAccess, asTag, inOrder, inBranches, byPlan, ofNode, isSpecificId, plan, substituteInExpression, substituteInChildren}
+use Rattle.walk.proofs.Tagged.{Tagged, tagged, next-untagged}
 
 pub size-at : (position : ℕ) (t : Tree) → size (at position t) ≡ size t
 unfolding at size
@@ -80,66 +78,9 @@ module _ (replacement : Tree) where
   of-node n kids true passed q = tt
   of-node n kids false passed q = refl
 
-both : (a b : Bool) → (a && b) ≡ true → (a ≡ true) × (b ≡ true)
-both true b e = (refl, e)
-both false b e = absurd (let z : _≡_ {A = ℕ} 0 1 = cc in omega arith)
-
 module _ (ctx : Context) (searchFor : ℕ) (replacement : Tree) where
-  -- where the plan is `tag`, the first child is the name
-  abbrev Tagged : Plan → Trees → Type 0
-  Tagged tag none = Unit {0}
-  Tagged tag (more t ts) = isSpecificId searchFor (root t) ≡ true
-  Tagged all ts = Unit {0}
-  Tagged first ts = Unit {0}
-  Tagged nothing ts = Unit {0}
-  Tagged value ts = Unit {0}
-  Tagged test ts = Unit {0}
-  Tagged branches ts = Unit {0}
-
-  tag-or-all : (b : Bool) (n : Node) (kids : Trees) → keepsIndirect searchFor replacement n kids ≡ b → Tagged (cond b tag all) kids
-  unfolding keepsIndirect firstTree
-  tag-or-all true n none e = tt
-  tag-or-all true n (more t ts) e = both (is 24 n) _ (both (is 24 n && isSpecificId searchFor (root t)) _ e .0) .1
-  tag-or-all false n kids e = tt
-
-  untagged : (b : Bool) (p q : Plan) (kids : Trees) → Tagged p kids → Tagged q kids → Tagged (cond b p q) kids
-  untagged true p q kids x y = x
-  untagged false p q kids x y = y
-
-  plan-for : (c : Choice) (n : Node) (kids : Trees) → Tagged (planFor ctx searchFor replacement c n kids) kids
-  unfolding planFor
-  plan-for never n kids = tag-or-all (keepsIndirect searchFor replacement n kids) n kids refl
-  plan-for skips n kids = untagged (mayHaveSideEffects replacement) first all kids tt tt
-  plan-for cuts n kids = untagged (mayHaveSideEffects replacement) first all kids tt tt
-  plan-for picks n kids = untagged (mayHaveSideEffects replacement) first test kids tt tt
-
-  tagged : (sh : Shape) (n : Node) (kids : Trees) → Tagged (plan ctx searchFor replacement sh n kids) kids
-  unfolding plan
-  tagged constant n kids = tt
-  tagged identifier n kids = tt
-  tagged targetName n kids = tt
-  tagged leaf n kids = tt
-  tagged chain n kids = tt
-  tagged import n kids = tt
-  tagged delete n kids = tt
-  tagged sequence n kids = tt
-  tagged property n kids = untagged (computed (n .flags)) nothing all kids tt tt
-  tagged stopping n kids = tt
-  tagged (assignment c) n kids = untagged (stopsAtTarget ctx replacement c (firstTree kids)) nothing value kids tt tt
-  tagged (steps c) n kids = untagged (keepsCallee replacement n kids) nothing (planFor ctx searchFor replacement c n kids) kids tt (plan-for c n kids)
-
-  next-untagged : (p : Plan) (ts : Trees) → Tagged (next p) ts
-  unfolding next
-  next-untagged all ts = tt
-  next-untagged first ts = tt
-  next-untagged nothing ts = tt
-  next-untagged value ts = tt
-  next-untagged test ts = tt
-  next-untagged branches ts = tt
-  next-untagged tag ts = tt
-
-  placed : (p : Plan) (t : Tree) (ts : Trees) → Tagged p (more t ts) → Placed replacement p (substituteInExpression ctx searchFor replacement t)
-  unfolding substituteInExpression
+  placed : (p : Plan) (t : Tree) (ts : Trees) → Tagged searchFor p (more t ts) → Placed replacement p (substituteInExpression ctx searchFor replacement t)
+  unfolding substituteInExpression firstTree
   placed all t ts e = tt
   placed first t ts e = tt
   placed nothing t ts e = tt
@@ -159,9 +100,9 @@ module _ (ctx : Context) (searchFor : ℕ) (replacement : Tree) where
     pub sized : (t : Tree) → Sized replacement t (substituteInExpression ctx searchFor replacement t)
     sized (node n kids) =
         name-sized (isSpecificId searchFor n) n kids _
-        (of-node replacement n kids _ _ (all-sized kids (plan ctx searchFor replacement (shape n) n kids) (tagged (shape n) n kids)))
+        (of-node replacement n kids _ _ (all-sized kids (plan ctx searchFor replacement (shape n) n kids) (tagged ctx searchFor replacement (shape n) n kids)))
 
-    pub all-sized : (ts : Trees) (p : Plan) → Tagged p ts → AllSized replacement ts (substituteInChildren ctx searchFor replacement p ts)
+    pub all-sized : (ts : Trees) (p : Plan) → Tagged searchFor p ts → AllSized replacement ts (substituteInChildren ctx searchFor replacement p ts)
     all-sized none p l = tt
     all-sized (more t ts) p l =
-        by-plan replacement p t ts _ _ (sized t) (placed p t ts l) (all-sized ts (next p) (next-untagged p ts))
+        by-plan replacement p t ts _ _ (sized t) (placed p t ts l) (all-sized ts (next p) (next-untagged searchFor p ts))

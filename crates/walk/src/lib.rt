@@ -1,1 +1,1 @@
-// Definitions only: see specs/.
+// Definitions and theorems only: see specs/ and proofs/.

@@ -1,15 +1,9 @@
-// Little-endian numbers, laid down at the start of a slice; what follows stays as it was.
+// A little-endian number, laid down at the start of a slice; what follows stays as it was.
 ghost use mathlib.Core.Path.{_≡_};
 ghost use mathlib.Core.List.{_++_};
 ghost use Prim.Native.Nat.{_≤_};
 ghost use lib.ListN.{length, drop};
-ghost use Rattle.records.specs.Bytes.{u16Bytes, u32Bytes};
-
-fn u16_bytes(n: u16) -> [u8; 2]
-    ensures { λ r. ⌜ r ≡ u16Bytes n ⌝ }
-{
-    [(n % 256) as u8, (n / 256) as u8]
-}
+ghost use Rattle.records.specs.Bytes.{u32Bytes};
 
 fn u32_bytes(n: u32) -> [u8; 4]
     ensures { λ r. ⌜ r ≡ u32Bytes n ⌝ }
@@ -20,14 +14,6 @@ fn u32_bytes(n: u32) -> [u8; 4]
         (n / 65536 % 256) as u8,
         (n / 16777216) as u8,
     ]
-}
-
-pub fn put_u16(out: &mut [u8], n: u16)
-    requires { ⌜ 2 ≤ length (now out) ⌝ }
-    ensures { λ _. ⌜ now (out .exit) ≡ u16Bytes n ++ drop 2 (now (out .entry)) ⌝ }
-{
-    let number = u16_bytes(n);
-    bytes::copy(&number, out);
 }
 
 pub fn put_u32(out: &mut [u8], n: u32)

@@ -4,14 +4,12 @@ ghost use mathlib.Core.Path.{_≡_};
 ghost use mathlib.Core.List.{_++_};
 ghost use Prim.Native.Nat.{_+_, _-_, _≤_};
 ghost use lib.ListN.{length, take, drop};
-ghost use Rattle.records.specs.Record.{headerBytes, nodeBytes, declaratorBytes, statementBytes};
+ghost use Rattle.records.specs.Record.{headerBytes, declaratorBytes, statementBytes};
 use crate::record_bytes::declarator_bytes;
 use crate::record_bytes::header_bytes;
-use crate::record_bytes::node_bytes;
 use crate::record_bytes::statement_bytes;
 use records::layout::DeclaratorRecord;
 use records::layout::Header;
-use records::layout::NodeRecord;
 use records::layout::StatementRecord;
 
 pub fn put_header(out: &mut [u8], h: Header)
@@ -19,14 +17,6 @@ pub fn put_header(out: &mut [u8], h: Header)
     ensures { λ _. ⌜ now (out .exit) ≡ headerBytes h ++ drop 24 (now (out .entry)) ⌝ }
 {
     let record = header_bytes(h);
-    bytes::copy(&record, out);
-}
-
-pub fn put_node(out: &mut [u8], n: NodeRecord)
-    requires { ⌜ 12 ≤ length (now out) ⌝ }
-    ensures { λ _. ⌜ now (out .exit) ≡ nodeBytes n ++ drop 12 (now (out .entry)) ⌝ }
-{
-    let record = node_bytes(n);
     bytes::copy(&record, out);
 }
 

@@ -1,12 +1,9 @@
-// The bytes of a record of each kind.
+// The bytes of the records that are written.
 ghost use mathlib.Core.Path.{_≡_};
-ghost use Rattle.records.specs.Record.{headerBytes, nameBytes, scopeBytes, frameBytes, nodeBytes, declaratorBytes, statementBytes};
+ghost use Rattle.records.specs.Record.{headerBytes, nodeBytes, declaratorBytes, statementBytes};
 use records::layout::DeclaratorRecord;
-use records::layout::Frame;
 use records::layout::Header;
-use records::layout::NameFacts;
 use records::layout::NodeRecord;
-use records::layout::Scope;
 use records::layout::StatementRecord;
 
 pub fn header_bytes(h: Header) -> [u8; 24]
@@ -37,51 +34,6 @@ pub fn header_bytes(h: Header) -> [u8; 24]
         (h.this_scope / 256) as u8,
         (h.last % 256) as u8,
         (h.last / 256) as u8,
-    ]
-}
-
-pub fn name_bytes(n: NameFacts) -> [u8; 12]
-    ensures { λ r. ⌜ r ≡ nameBytes n ⌝ }
-{
-    [
-        (n.flags % 256) as u8,
-        (n.flags / 256) as u8,
-        (n.scope % 256) as u8,
-        (n.scope / 256) as u8,
-        (n.reads % 256) as u8,
-        (n.reads / 256 % 256) as u8,
-        (n.reads / 65536 % 256) as u8,
-        (n.reads / 16777216) as u8,
-        (n.writes % 256) as u8,
-        (n.writes / 256 % 256) as u8,
-        (n.writes / 65536 % 256) as u8,
-        (n.writes / 16777216) as u8,
-    ]
-}
-
-pub fn scope_bytes(s: Scope) -> [u8; 4]
-    ensures { λ r. ⌜ r ≡ scopeBytes s ⌝ }
-{
-    [
-        (s.parent % 256) as u8,
-        (s.parent / 256) as u8,
-        (s.flags % 256) as u8,
-        (s.flags / 256) as u8,
-    ]
-}
-
-pub fn frame_bytes(f: Frame) -> [u8; 8]
-    ensures { λ r. ⌜ r ≡ frameBytes f ⌝ }
-{
-    [
-        (f.scope % 256) as u8,
-        (f.scope / 256) as u8,
-        (f.zero % 256) as u8,
-        (f.zero / 256) as u8,
-        (f.initialised % 256) as u8,
-        (f.initialised / 256 % 256) as u8,
-        (f.initialised / 65536 % 256) as u8,
-        (f.initialised / 16777216) as u8,
     ]
 }
 

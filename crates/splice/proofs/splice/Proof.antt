@@ -1,5 +1,6 @@
 -- `splice::splice` meets its contract. Assumes nothing.
 use mathlib.Core.Path.{ap, _∙_}
+use Prim.Native.Nat.{_+_, _*_, _-_}
 use native.Mathlib.Omega.{arith}
 use Rattle.records.specs.declared.layout.NodeRecord.{NodeRecord}
 use Rattle.splice.proofs.Laws.{bounds, name-read, spliced, spliced-indirect}
@@ -10,53 +11,47 @@ use Rattle.splice.proofs.splice.Tie as tie
 mul-first : tie.Need-mul-first
 mul-first c = omega (arith, bounds ((c .before .before) .pre .0 .6))
 
-mul-searched : tie.Need-mul-searched
-mul-searched c = omega (arith, bounds ((c .before .before .before) .pre .0 .6))
-
 mul-found : tie.Need-mul-found
-mul-found c = omega (arith, bounds ((c .before .before .before .before) .pre .0 .6))
-
-mul-end : tie.Need-mul-end
-mul-end c = omega (arith, bounds ((c .before .before .before .before) .pre .0 .6))
+mul-found c = omega (arith, bounds ((c .before .before .before) .pre .0 .6))
 
 node-at-requires : tie.Need-node-at-requires
-node-at-requires c κs = omega (arith, bounds ((c .before .before .before .before .before) .pre .0 .6))
+node-at-requires c κs = omega (arith, bounds ((c .before .before .before .before) .pre .0 .6))
 
 put-position-requires : tie.Need-put-position-requires
-put-position-requires c κs = omega (arith, bounds ((c .before .before .before .before .before .before .before) .pre .0 .6))
+put-position-requires c κs = omega (arith, bounds ((c .before .before .before .before .before .before) .pre .0 .6))
 
 rotate-requires : tie.Need-rotate-requires
-rotate-requires c κs = omega (arith, bounds ((c .before .before .before .before .before .before .before .before .before .before .before) .pre .0 .6))
+rotate-requires c κs = omega (arith, bounds ((c .before .before .before .before .before .before .before .before .before .before) .pre .0 .6))
 
 sub-keep-indirect : tie.Need-sub-keep-indirect
-sub-keep-indirect c = search needs
+sub-keep-indirect c = omega (arith, bounds ((c .before .before .before .before .before .before .before .before .before .before .before .before .before .before .before .before .before) .pre .0 .6))
 
 add-keep-indirect : tie.Need-add-keep-indirect
-add-keep-indirect c = omega (arith, bounds ((c .before .before .before .before .before .before .before .before .before .before .before .before .before .before .before .before) .pre .0 .6))
+add-keep-indirect c = omega (arith, bounds ((c .before .before .before .before .before .before .before .before .before .before .before .before .before .before .before .before .before .before) .pre .0 .6))
 
 keep-indirect-requires : tie.Need-keep-indirect-requires
-keep-indirect-requires c κs = omega (arith, bounds ((c .before .before .before .before .before .before .before .before .before .before .before .before .before .before .before .before) .pre .0 .6), (c .before .before .before .before .before .before .before .before .before .before .before .before .before .before .before .before) .pre .1 ((c .before .if1) .taken))
+keep-indirect-requires c κs = omega (arith, bounds ((c .before .before .before .before .before .before .before .before .before .before .before .before .before .before .before .before .before .before) .pre .0 .6), (c .before .before .before .before .before .before .before .before .before .before .before .before .before .before .before .before .before .before) .pre .1 ((c .before .before .before .before .if1) .taken))
 
 add-result : tie.Need-add-result
-add-result c = omega (arith, bounds ((c .before .before .before .before .before .before .before .before .before .before .before .before .before .before .before .before .before .before .before) .pre .0 .6), (c .before .before .before .before .before .before .before .before .before .before .before .before .before .before .before .before .before .before .before) .pre .1 ((c .before .before .before .before .if1) .taken))
+add-result c = omega (arith, bounds ((c .before .before .before .before .before .before .before .before .before .before .before .before .before .before .before .before .before .before .before .before .before) .pre .0 .6), (c .before .before .before .before .before .before .before .before .before .before .before .before .before .before .before .before .before .before .before .before .before) .pre .1 ((c .before .before .before .before .before .before .before .if1) .taken))
 
 same-length : tie.Need-same-length
 same-length c = search needs
 
 returns : tie.Need-returns
 returns c =
-    let fits = (c .before .before .before .before .before .before .before .before .before .before .before .before .before .before .before .before .before .before .before) .pre .1 ((c .before .before .before .before .if1) .taken) in
-    let at-name = (c .before .before .before .before .before .before .before .before .before .before .before .before .before .node-at) .ensures in (
-      λ t name pre between after rest h.
-          (_, spliced-indirect h (ap (λ (n : NodeRecord). n .position) (at-name ∙ name-read h)) ((c .before .before .before .before .before .before .before .before .before .before .before .put-position) .ensures) ((c .before .before .before .before .before .before .before .rotate) .ensures) ((c .before .before .before .before .if1) .taken) fits ((c .before .before .keep-indirect) .ensures)),
-      search needs,
-    )
+    let fits = (c .before .before .before .before .before .before .before .before .before .before .before .before .before .before .before .before .before .before .before .before .before) .pre .1 ((c .before .before .before .before .before .before .before .if1) .taken) in
+    let at-name = (c .before .before .before .before .before .before .before .before .before .before .before .before .before .before .before .before .node-at) .ensures in
+    (λ t name pre between after rest h. (_, spliced-indirect h (ap (λ (n : NodeRecord). n .position) (at-name ∙ name-read h)) ((c .before .before .before .before .before .before .before .before .before .before .before .before .before .before .put-position) .ensures) ((c .before .before .before .before .before .before .before .before .before .before .rotate) .ensures) ((c .before .before .before .before .before .before .before .if1) .taken) fits ((c .before .before .keep-indirect) .ensures)), search needs)
 
-add-rotate : tie.Need-add-rotate
-add-rotate c = omega (arith, bounds ((c .before .before .before .before .before .before .before .before .before .before .before .before .before .before .before .before) .pre .0 .6))
+add-after : tie.Need-add-after
+add-after c = omega (arith, bounds ((c .before .before .before .before .before .before .before .before .before .before .before .before .before .before .before) .pre .0 .6))
 
-rotate-requires-2 : tie.Need-rotate-requires-2
-rotate-requires-2 c κs = omega (arith, bounds ((c .before .before .before .before .before .before .before .before .before .before .before .before .before .before .before .before) .pre .0 .6))
+sub-move-down : tie.Need-sub-move-down
+sub-move-down c = omega (arith, bounds ((c .before .before .before .before .before .before .before .before .before .before .before .before .before .before .before .before) .pre .0 .6))
+
+move-down-requires : tie.Need-move-down-requires
+move-down-requires c κs = omega (arith, bounds ((c .before .before .before .before .before .before .before .before .before .before .before .before .before .before .before .before) .pre .0 .6))
 
 sub-result : tie.Need-sub-result
 sub-result c = search needs
@@ -66,20 +61,18 @@ same-length-2 c = search needs
 
 returns-2 : tie.Need-returns-2
 returns-2 c =
-    let at-name = (c .before .before .before .before .before .before .before .before .before .before .before .before .before .node-at) .ensures in (
-      λ t name pre between after rest h.
-          (_, spliced h (ap (λ (n : NodeRecord). n .position) (at-name ∙ name-read h)) ((c .before .before .before .before .before .before .before .before .before .before .before .put-position) .ensures) ((c .before .before .before .before .before .before .before .rotate) .ensures) ((c .before .before .before .before .if1) .left) ((c .before .before .rotate2) .ensures)),
-      search needs,
-    )
+    let a = (c .before .before .before .before .before .before .before .before .before .before .before .before .before .before .before .before .before .before .before) .args in
+    let at-name = (c .before .before .before .before .before .before .before .before .before .before .before .before .before .before .node-at) .ensures in
+    let after = a .place .0 + 1 in
+    let within = bounds ((c .before .before .before .before .before .before .before .before .before .before .before .before .before .before .before .before .before .before .before) .pre .0 .6) in
+    (λ t name pre between tail rest h. (_, spliced h (ap (λ (n : NodeRecord). n .position) (at-name ∙ name-read h)) ((c .before .before .before .before .before .before .before .before .before .before .before .before .put-position) .ensures) ((c .before .before .before .before .before .before .before .before .rotate) .ensures) (16 * after) (16 * (a .used - after)) (omega arith) (omega arith) ((c .before .before .before .before .before .if1) .left) ((c .before .before .move-down) .ensures)), search needs)
 
 pub splice-spec : {M : Type 1} → statement M
 splice-spec =
     tie.close
     (tie.spec
     mul-first
-    mul-searched
     mul-found
-    mul-end
     node-at-requires
     put-position-requires
     rotate-requires
@@ -89,8 +82,9 @@ splice-spec =
     add-result
     same-length
     returns
-    add-rotate
-    rotate-requires-2
+    add-after
+    sub-move-down
+    move-down-requires
     sub-result
     same-length-2
     returns-2)

@@ -1,5 +1,5 @@
 -- `table::copy_nodes` meets its contract. Assumes nothing.
-use mathlib.Core.Path.{_≡_, refl, sym, ap, _∙_}
+use mathlib.Core.Path.{refl}
 use native.Mathlib.Omega.{arith}
 use Rattle.records.specs.Record.{nodeAt, nodeBytes}
 use Rattle.table.specs.Table.{workBytes}
@@ -19,42 +19,39 @@ loop-holds c = laid-none
 sub-i : tie.Need-sub-i Inv-loop μ-loop
 sub-i c = omega arith
 
-mul-node-at : tie.Need-mul-node-at Inv-loop μ-loop
-mul-node-at c = omega arith
-
-add-node-at : tie.Need-add-node-at Inv-loop μ-loop
-add-node-at c = omega arith
-
-node-at-requires : tie.Need-node-at-requires Inv-loop μ-loop
-node-at-requires c κs = omega arith
-
 mul-at : tie.Need-mul-at Inv-loop μ-loop
 mul-at c = omega arith
 
-sub-put-work-node : tie.Need-sub-put-work-node Inv-loop μ-loop
-sub-put-work-node c = omega arith
+mul-copy-node : tie.Need-mul-copy-node Inv-loop μ-loop
+mul-copy-node c = omega arith
 
-part-put-work-node-start : tie.Need-part-put-work-node-start Inv-loop μ-loop
-part-put-work-node-start c = omega arith
+add-copy-node : tie.Need-add-copy-node Inv-loop μ-loop
+add-copy-node c = omega arith
 
-part-put-work-node-end : tie.Need-part-put-work-node-end Inv-loop μ-loop
-part-put-work-node-end c = omega arith
+sub-copy-node : tie.Need-sub-copy-node Inv-loop μ-loop
+sub-copy-node c = omega arith
 
-put-work-node-requires : tie.Need-put-work-node-requires Inv-loop μ-loop
-put-work-node-requires c κs = omega arith
+part-copy-node-start : tie.Need-part-copy-node-start Inv-loop μ-loop
+part-copy-node-start c = omega arith
+
+part-copy-node-end : tie.Need-part-copy-node-end Inv-loop μ-loop
+part-copy-node-end c = omega arith
+
+copy-node-requires : tie.Need-copy-node-requires Inv-loop μ-loop
+copy-node-requires c κs = (omega arith, omega arith)
 
 loop-less : tie.Need-loop-less Inv-loop μ-loop
 loop-less c = omega arith
 
 loop-again : tie.Need-loop-again Inv-loop μ-loop
 unfolding workBytes nodeBytes
-loop-again c = laid-more ((c .before .before .before .before .node-at) .result) ((c .before .before .put-work-node) .last .0) _ _ ((c .before .before .before .before .before .before .loop) .inv) (omega arith) ((c .before .before .before .before .node-at) .ensures) refl ((c .before .before .put-work-node) .ensures) refl (omega arith)
+loop-again c = laid-more _ ((c .before .before .copy-node) .last .1 .1 .0) _ _ ((c .before .before .before .before .before .loop) .inv) (omega arith) refl refl ((c .before .before .copy-node) .ensures) refl (omega arith)
 
 same-length : tie.Need-same-length Inv-loop μ-loop
 same-length c = omega arith
 
 returns : tie.Need-returns Inv-loop μ-loop
-returns c = laid-all ((c .before .loop) .inv) (c .loop-test .left)
+returns c = laid-all ((c .before .loop) .inv) ((c .loop-test) .left)
 
 pub copy-nodes-spec : {M : Type 1} → statement M
 copy-nodes-spec =
@@ -64,14 +61,13 @@ copy-nodes-spec =
     μ-loop
     loop-holds
     sub-i
-    mul-node-at
-    add-node-at
-    node-at-requires
     mul-at
-    sub-put-work-node
-    part-put-work-node-start
-    part-put-work-node-end
-    put-work-node-requires
+    mul-copy-node
+    add-copy-node
+    sub-copy-node
+    part-copy-node-start
+    part-copy-node-end
+    copy-node-requires
     loop-less
     loop-again
     same-length

@@ -1,5 +1,5 @@
 -- `table::put_nodes` meets its contract. Assumes nothing.
-use mathlib.Core.Path.{_≡_, refl, sym, ap, _∙_}
+use mathlib.Core.Path.{refl}
 use native.Mathlib.Omega.{arith}
 use native.Mathlib.Nat.{zero-add}
 use Rattle.records.specs.Record.{nodeAt, nodeBytes}
@@ -19,39 +19,36 @@ loop-holds c = laid-none
 sub-i : tie.Need-sub-i Inv-loop μ-loop
 sub-i c = omega arith
 
-mul-node-at : tie.Need-mul-node-at Inv-loop μ-loop
-mul-node-at c = omega arith
-
-node-at-requires : tie.Need-node-at-requires Inv-loop μ-loop
-node-at-requires c κs = omega arith
-
 mul-at : tie.Need-mul-at Inv-loop μ-loop
 mul-at c = omega arith
 
-sub-put-node : tie.Need-sub-put-node Inv-loop μ-loop
-sub-put-node c = omega arith
+sub-put-record : tie.Need-sub-put-record Inv-loop μ-loop
+sub-put-record c = omega arith
 
-part-put-node-start : tie.Need-part-put-node-start Inv-loop μ-loop
-part-put-node-start c = omega arith
+part-put-record-start : tie.Need-part-put-record-start Inv-loop μ-loop
+part-put-record-start c = omega arith
 
-part-put-node-end : tie.Need-part-put-node-end Inv-loop μ-loop
-part-put-node-end c = omega arith
+part-put-record-end : tie.Need-part-put-record-end Inv-loop μ-loop
+part-put-record-end c = omega arith
 
-put-node-requires : tie.Need-put-node-requires Inv-loop μ-loop
-put-node-requires c κs = omega arith
+mul-put-record : tie.Need-mul-put-record Inv-loop μ-loop
+mul-put-record c = omega arith
+
+put-record-requires : tie.Need-put-record-requires Inv-loop μ-loop
+put-record-requires c κs = (omega arith, omega arith)
 
 loop-less : tie.Need-loop-less Inv-loop μ-loop
 loop-less c = omega arith
 
 loop-again : tie.Need-loop-again Inv-loop μ-loop
 unfolding nodeBytes
-loop-again c = laid-more ((c .before .before .before .before .node-at) .result) ((c .before .before .put-node) .last .0) _ _ ((c .before .before .before .before .before .before .loop) .inv) (omega arith) ((c .before .before .before .before .node-at) .ensures ∙ rw zero-add) refl ((c .before .before .put-node) .ensures) refl (omega arith)
+loop-again c = laid-more _ ((c .before .before .put-record) .last .0) _ _ ((c .before .before .before .before .before .loop) .inv) (omega arith) (rw zero-add) refl ((c .before .before .put-record) .ensures) refl (omega arith)
 
 same-length : tie.Need-same-length Inv-loop μ-loop
 same-length c = omega arith
 
 returns : tie.Need-returns Inv-loop μ-loop
-returns c = laid-all ((c .before .loop) .inv) (c .loop-test .left)
+returns c = laid-all ((c .before .loop) .inv) ((c .loop-test) .left)
 
 pub put-nodes-spec : {M : Type 1} → statement M
 put-nodes-spec =
@@ -61,13 +58,12 @@ put-nodes-spec =
     μ-loop
     loop-holds
     sub-i
-    mul-node-at
-    node-at-requires
     mul-at
-    sub-put-node
-    part-put-node-start
-    part-put-node-end
-    put-node-requires
+    sub-put-record
+    part-put-record-start
+    part-put-record-end
+    mul-put-record
+    put-record-requires
     loop-less
     loop-again
     same-length

@@ -1,11 +1,13 @@
 -- `table::put_work_node` meets its contract. Assumes nothing.
-use mathlib.Core.Path.{_≡_, refl, sym, ap, _∙_}
-use native.Mathlib.Omega.{arith}
+use mathlib.Core.Path.{_∙_}
 use Rattle.records.specs.Record.{nodeBytes}
 use Rattle.table.specs.Table.{workBytes}
 use borrow.Author.Needs.{needs}
 use Rattle.table.proofs.put_work_node.Statement.{statement}
 use Rattle.table.proofs.put_work_node.Tie as tie
+
+node-bytes-requires : tie.Need-node-bytes-requires
+node-bytes-requires c κs = search needs
 
 work-bytes-requires : tie.Need-work-bytes-requires
 work-bytes-requires c κs = search needs
@@ -21,8 +23,15 @@ same-length c = search needs
 
 returns : tie.Need-returns
 unfolding workBytes nodeBytes
-returns c = (((c .before .before .copy) .ensures) .1) ∙ rw ((c .before .before .before .before .before .work-bytes) .ensures)
+returns c = (c .before .before .copy) .ensures .1 ∙ rw ((c .before .before .before .before .before .work-bytes) .ensures ((c .before .before .before .before .before .before .before .before) .args .n) ((c .before .before .before .before .before .before .node-bytes) .ensures))
 
 pub put-work-node-spec : {M : Type 1} → statement M
 put-work-node-spec =
-    tie.close (tie.spec work-bytes-requires slice-aggregate-copy copy-requires same-length returns)
+    tie.close
+    (tie.spec
+    node-bytes-requires
+    work-bytes-requires
+    slice-aggregate-copy
+    copy-requires
+    same-length
+    returns)

@@ -1,70 +1,64 @@
 -- `table::work_bytes` meets its contract. Assumes nothing.
-use mathlib.Core.Path.{_≡_, refl, sym, ap, _∙_}
-use native.Mathlib.Omega.{arith}
 use Rattle.records.specs.Record.{nodeBytes}
 use Rattle.table.specs.Table.{workBytes}
 use borrow.Author.Needs.{needs}
 use Rattle.table.proofs.work_bytes.Statement.{statement}
 use Rattle.table.proofs.work_bytes.Tie as tie
 
-node-bytes-requires : tie.Need-node-bytes-requires
-node-bytes-requires c κs = search needs
+array-read-t5 : tie.Need-array-read-t5
+array-read-t5 c = search needs
 
-array-read-t6 : tie.Need-array-read-t6
-array-read-t6 c = search needs
+array-read-t8 : tie.Need-array-read-t8
+array-read-t8 c = search needs
 
-array-read-t9 : tie.Need-array-read-t9
-array-read-t9 c = search needs
+array-read-t11 : tie.Need-array-read-t11
+array-read-t11 c = search needs
 
-array-read-t12 : tie.Need-array-read-t12
-array-read-t12 c = search needs
+array-read-t14 : tie.Need-array-read-t14
+array-read-t14 c = search needs
 
-array-read-t15 : tie.Need-array-read-t15
-array-read-t15 c = search needs
+array-read-t17 : tie.Need-array-read-t17
+array-read-t17 c = search needs
 
-array-read-t18 : tie.Need-array-read-t18
-array-read-t18 c = search needs
+array-read-t20 : tie.Need-array-read-t20
+array-read-t20 c = search needs
 
-array-read-t21 : tie.Need-array-read-t21
-array-read-t21 c = search needs
+array-read-t23 : tie.Need-array-read-t23
+array-read-t23 c = search needs
 
-array-read-t24 : tie.Need-array-read-t24
-array-read-t24 c = search needs
+array-read-t26 : tie.Need-array-read-t26
+array-read-t26 c = search needs
 
-array-read-t27 : tie.Need-array-read-t27
-array-read-t27 c = search needs
+array-read-t29 : tie.Need-array-read-t29
+array-read-t29 c = search needs
 
-array-read-t30 : tie.Need-array-read-t30
-array-read-t30 c = search needs
+array-read-t32 : tie.Need-array-read-t32
+array-read-t32 c = search needs
 
-array-read-t33 : tie.Need-array-read-t33
-array-read-t33 c = search needs
+array-read-t35 : tie.Need-array-read-t35
+array-read-t35 c = search needs
 
-array-read-t36 : tie.Need-array-read-t36
-array-read-t36 c = search needs
-
-array-read-t39 : tie.Need-array-read-t39
-array-read-t39 c = search needs
+array-read-t38 : tie.Need-array-read-t38
+array-read-t38 c = search needs
 
 returns : tie.Need-returns
 unfolding workBytes nodeBytes
-returns c = rw ((c .node-bytes) .ensures)
+returns c = λ n e. rw e
 
 pub work-bytes-spec : {M : Type 1} → statement M
 work-bytes-spec =
     tie.close
     (tie.spec
-    node-bytes-requires
-    array-read-t6
-    array-read-t9
-    array-read-t12
-    array-read-t15
-    array-read-t18
-    array-read-t21
-    array-read-t24
-    array-read-t27
-    array-read-t30
-    array-read-t33
-    array-read-t36
-    array-read-t39
+    array-read-t5
+    array-read-t8
+    array-read-t11
+    array-read-t14
+    array-read-t17
+    array-read-t20
+    array-read-t23
+    array-read-t26
+    array-read-t29
+    array-read-t32
+    array-read-t35
+    array-read-t38
     returns)

@@ -1,6 +1,6 @@
 -- `declarators::describe::describe` meets its contract. Assumes nothing.
-use Rattle.declarators.proofs.Describing.{stands-room, described}
-use Rattle.plans.proofs.Children.{alone-stands}
+use Rattle.plans.proofs.Children.{stands-room}
+use Rattle.declarators.proofs.Describing.{described}
 use borrow.Author.Needs.{needs}
 use Rattle.declarators.proofs.describe.describe.Statement.{statement}
 use Rattle.declarators.proofs.describe.describe.Tie as tie
@@ -11,8 +11,8 @@ work-node-requires c κs = stands-room ((c .before) .pre)
 first-child-requires : tie.Need-first-child-requires
 first-child-requires c κs = ((c .before .before) .pre, (c .work-node) .ensures)
 
-pass-row-requires : tie.Need-pass-row-requires
-pass-row-requires c κs = alone-stands ((c .before .before .before) .pre)
+may-have-side-effects-requires : tie.Need-may-have-side-effects-requires
+may-have-side-effects-requires c κs = (c .before .before .before) .pre
 
 is-member-expression-requires : tie.Need-is-member-expression-requires
 is-member-expression-requires c κs = search needs
@@ -21,7 +21,7 @@ is-member-expression-requires-2 : tie.Need-is-member-expression-requires-2
 is-member-expression-requires-2 c κs = search needs
 
 returns : tie.Need-returns
-returns c = described ((c .before .before .before .before .before .before .first-child) .result) ((c .before .before .before .before .before .before .before .work-node) .ensures) ((c .before .before .before .before .before .before .first-child) .ensures) ((c .before .before .before .before .before .pass-row) .ensures) ((c .before .before .before .before .is-member-expression) .ensures) ((c .is-member-expression2) .ensures) ((c .before .before .before .before .before .before .before .before .before) .args .name)
+returns c = described ((c .before .before .before .before .before .before .first-child) .result) ((c .before .before .before .before .before .before .before .work-node) .ensures) ((c .before .before .before .before .before .before .first-child) .ensures) ((c .before .before .before .before .before .may-have-side-effects) .ensures) ((c .before .before .before .before .is-member-expression) .ensures) ((c .is-member-expression2) .ensures) ((c .before .before .before .before .before .before .before .before .before) .args .name)
 
 pub describe-spec : {M : Type 1} → statement M
 describe-spec =
@@ -29,7 +29,7 @@ describe-spec =
     (tie.spec
     work-node-requires
     first-child-requires
-    pass-row-requires
+    may-have-side-effects-requires
     is-member-expression-requires
     is-member-expression-requires-2
     returns)

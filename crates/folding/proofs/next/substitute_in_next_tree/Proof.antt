@@ -20,7 +20,7 @@ substitute-single-use-symbol-in-statement-requires c κs =
 add-t16 : tie.Need-add-t16
 add-t16 c =
     let x = next-folds-fit ((c .before .before .before .before .before .before .before .before .before .before .before .before .before .before .before .before .before .before) .args .file .now) ((c .before .before .before .before .before .before .before .before .before .before .before .before .before .before .before .before .before .before) .args .h) ((c .before .before .before .before .before .before .before .before .before .before .before .before .before .before .before .before .before .before) .args .nodes .now) ((c .before .before .before .before .before .before .before .before .before .before .before .before .before .before .before .before .before .before) .args .declarators .now) ((c .before .before .before .before .before .before .before .before .before .before .before .before .before .before .before .before .before .before) .args .starts .now) ((c .before .before .before .before .before .before .before .before .before .before .before .before .before .before .before .before .before .before) .args .statements .now) ((c .before .before .before .before .before .before .before .before .before .before .before .before .before .before .before .before .before .before) .args .p) ((c .before .before .before .before .before .before .before .before .before .before .before .before .before .before .before .before .before .before) .pre .1 .1 .1) (contextOf (read ((c .before .before .before .before .before .before .before .before .before .before .before .before .before .before .before .before .before .before) .args .file .now))) _ ((c .before .before .before .before .before .before .before .before .before .before .before .load-next) .result) ((c .before .before .before .before .before .before .before .before .before .before .before .load-next) .ensures) _ _ _ ((c .before .before .before .before .before .before .substitute-single-use-symbol-in-statement) .ensures) in
-    omega (arith, x)
+    omega (arith, x, (c .before .before .before .before .before .before .before .before .before .before .before .before .before .before .before .before .before .before) .good)
 
 same-length : tie.Need-same-length
 same-length c = search needs

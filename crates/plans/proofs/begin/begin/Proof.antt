@@ -38,7 +38,7 @@ keeps-indirect-requires : tie.Need-keeps-indirect-requires
 keeps-indirect-requires c κs = search needs
 
 returns-2 : tie.Need-returns-2
-returns-2 c = begins-first (contextOf (read ((c .before .before .before .before .before .before .before .before .before .before) .args .file .now))) ((c .before .before .before .before .before .before .before .before .before .before) .pre .1 .1 .1) ((c .before .before .before .before .before .before .before .shape-of) .ensures) (sym ((c .before .before .before .before .before .before .is-assignment) .ensures) ∙ (c .before .before .before .before .before .if1) .left) ((c .before .before .before .before .first-child) .result) ((c .before .before .before .before .first-child) .ensures) ((c .before .before .before .plan-of) .ensures) ((c .keeps-indirect) .ensures) refl ((c .before .size) .ensures .0) refl refl
+returns-2 c = begins-first (contextOf (read ((c .before .before .before .before .before .before .before .before .before .before) .args .file .now))) ((c .before .before .before .before .before .before .before .before .before .before) .pre .1 .1 .1) ((c .before .before .before .before .before .before .before .shape-of) .result) ((c .before .before .before .before .before .before .before .shape-of) .ensures) (sym ((c .before .before .before .before .before .before .is-assignment) .ensures) ∙ (c .before .before .before .before .before .if1) .left) ((c .before .before .before .before .first-child) .result) ((c .before .before .before .before .first-child) .ensures) ((c .before .before .before .plan-of) .ensures) ((c .keeps-indirect) .ensures) refl ((c .before .size) .ensures .0) refl refl
 
 pub begin-spec : {M : Type 1} → statement M
 begin-spec =

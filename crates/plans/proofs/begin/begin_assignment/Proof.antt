@@ -35,7 +35,7 @@ sub-t18 : tie.Need-sub-t18
 sub-t18 c = first-of-many ((c .before .before .before .before .before .before .before .before .before .before .before) .args .n .children) ((c .before .before .before .before .before .before .before .one) .ensures .0) ((c .size) .ensures .0)
 
 returns : tie.Need-returns
-returns c = begins-behind (contextOf (read ((c .before .before .before .before .before .before .before .before .before .before .before) .args .file .now))) ((c .before .before .before .before .before .before .before .before .before .before .before) .pre .1 .1 .1 .0) ((c .before .before .before .before .before .before .before .before .before .before .before) .pre .1 .1 .1 .1 .0) ((c .before .before .before .before .before .before .before .before .before .before .before) .pre .1 .1 .1 .1 .1) ((c .before .before .before .before .before .before .before .one) .ensures .0) ((c .before .before .before .before .before .pass-row) .ensures) ((c .before .before .before .before .is-compound) .result) ((c .before .before .before .before .is-compound) .ensures) ((c .before .before .before .stops-at-target) .ensures) ((c .before .plan-behind) .ensures) (ap (λ x. x - (c .before .before .before .before .before .before .before .one) .result) ((c .size) .ensures .0)) refl
+returns c = begins-behind (contextOf (read ((c .before .before .before .before .before .before .before .before .before .before .before) .args .file .now))) ((c .before .before .before .before .before .before .before .before .before .before .before) .pre .1 .1 .1 .0) ((c .before .before .before .before .before .before .before .before .before .before .before) .args .shape) ((c .before .before .before .before .before .before .before .before .before .before .before) .pre .1 .1 .1 .1 .0) ((c .before .before .before .before .before .before .before .before .before .before .before) .pre .1 .1 .1 .1 .1) ((c .before .before .before .before .before .before .before .one) .ensures .0) ((c .before .before .before .before .before .pass-row) .ensures) ((c .before .before .before .before .is-compound) .result) ((c .before .before .before .before .is-compound) .ensures) ((c .before .before .before .stops-at-target) .ensures) ((c .before .plan-behind) .ensures) (ap (λ x. x - (c .before .before .before .before .before .before .before .one) .result) ((c .size) .ensures .0)) refl
 
 pub begin-assignment-spec : {M : Type 1} → statement M
 begin-assignment-spec =

@@ -1,63 +1,28 @@
 -- `records::node::nodes_are_good` meets its contract. Assumes nothing.
-use Prim.Native.Nat.{_-_}
-use native.Mathlib.Omega.{arith}
-use Rattle.records.specs.Record.{nameAt, nodeAt}
-use Rattle.records.specs.Records.{recordsFrom}
-use Rattle.records.specs.Node.{goodNode}
-use Rattle.records.proofs.Names.{node-judged}
-use Rattle.records.proofs.Series.{Passed, passed-none, passed-more, passed-all}
+use mathlib.Core.Path.{refl}
+use Rattle.records.specs.Node.{fewest, most}
+use borrow.Author.Needs.{needs}
 use Rattle.records.proofs.node.nodes_are_good.Statement.{statement}
 use Rattle.records.proofs.node.nodes_are_good.Tie as tie
 
-abbrev Inv-loop : tie.InvT-loop
-Inv-loop file from count names good₀ i₀ good i = Passed (λ k. goodNode (recordsFrom (nameAt file) 12 names 24)) (nodeAt file) 12 count from good i
+slice-aggregate-nodes-are-good-by : tie.Need-slice-aggregate-nodes-are-good-by
+slice-aggregate-nodes-are-good-by c = search needs
 
-abbrev μ-loop : tie.MeasureT-loop
-μ-loop file from count names good₀ i₀ good i = count - i
+slice-aggregate-nodes-are-good-by-2 : tie.Need-slice-aggregate-nodes-are-good-by-2
+slice-aggregate-nodes-are-good-by-2 c = search needs
 
-loop-holds : tie.Need-loop-holds Inv-loop μ-loop
-loop-holds c = passed-none
+nodes-are-good-by-requires : tie.Need-nodes-are-good-by-requires
+unfolding fewest most
+nodes-are-good-by-requires c κs = ((c .before .before .before) .pre .0, ((c .before .before .before) .pre .1, (refl, refl)))
 
-mul-node-at : tie.Need-mul-node-at Inv-loop μ-loop
-mul-node-at c = omega arith
-
-add-node-at : tie.Need-add-node-at Inv-loop μ-loop
-add-node-at c = omega arith
-
-node-at-requires : tie.Need-node-at-requires Inv-loop μ-loop
-node-at-requires c κs = omega arith
-
-flags-of-requires : tie.Need-flags-of-requires Inv-loop μ-loop
-flags-of-requires c κs = omega arith
-
-node-is-good-requires : tie.Need-node-is-good-requires Inv-loop μ-loop
-node-is-good-requires c κs = tt
-
-add-i : tie.Need-add-i Inv-loop μ-loop
-add-i c = omega arith
-
-loop-less : tie.Need-loop-less Inv-loop μ-loop
-loop-less c = omega arith
-
-loop-again : tie.Need-loop-again Inv-loop μ-loop
-loop-again c = passed-more ((c .before .before .node-at) .result) ((c .node-is-good) .result) ((c .before .before .before .before .loop) .inv) ((c .before .before .before .loop-test) .taken) ((c .before .before .node-at) .ensures) (node-judged _ _ _ ((c .before .before .node-at) .result) ((c .before .flags-of) .ensures) ((c .node-is-good) .ensures))
-
-returns : tie.Need-returns Inv-loop μ-loop
-returns c = passed-all ((c .before .loop) .inv) (c .loop-test .left)
+returns : tie.Need-returns
+returns c = search needs
 
 pub nodes-are-good-spec : {M : Type 1} → statement M
 nodes-are-good-spec =
     tie.close
     (tie.spec
-    Inv-loop
-    μ-loop
-    loop-holds
-    mul-node-at
-    add-node-at
-    node-at-requires
-    flags-of-requires
-    node-is-good-requires
-    add-i
-    loop-less
-    loop-again
+    slice-aggregate-nodes-are-good-by
+    slice-aggregate-nodes-are-good-by-2
+    nodes-are-good-by-requires
     returns)

@@ -3,7 +3,7 @@ use mathlib.Core.Path.{_≡_, refl, sym, ap, _∙_}
 use native.Mathlib.Omega.{arith}
 use native.Mathlib.Nat.{le-trans}
 use Rattle.records.specs.Refusal.{refusal}
-use Rattle.refusal.proofs.Limits.{names-fit, nodes-fit, length-said, file-declarators-fit}
+use Rattle.refusal.proofs.Limits.{names-fit, length-said, file-declarators-fit}
 use borrow.Author.Needs.{needs}
 use borrow.Author.Needs.{needs}
 use Rattle.refusal.proofs.check.check.Statement.{statement}
@@ -31,7 +31,7 @@ unfolding refusal
 returns-3 c = rw (((c .before .before .before .before .before .before .before .before .before .before .before) .pre .0) .script, ← ((c .before .before .before .before .before .before .before .before .before .before .before) .pre .0) .is, ((c .before .before .before .before .before .before .before .before .before .before .before) .pre .0) .version, ((c .before .before .before .before .before .before .before .before .before .before .before) .pre .0) .limits, ((c .before .before .before .before .before .before .before .before .before .before .before) .pre .0) .measured, ← (c .before .before .before .before .before .facts-are-bad) .ensures, (c .before .before .before .before .if1) .left, ← ((c .before .before .before .script-totals) .ensures) .0, (c .before .before .if2) .left, ← (c .before .nodes-are-bad) .ensures, (c .if3) .taken)
 
 trees-are-bad-requires : tie.Need-trees-are-bad-requires
-trees-are-bad-requires c κs = (((c .before .before .before .before .before .before .before .before .before .before .before .before) .pre .0) .is, (length-said ((c .before .before .before .before .before .before .before .before .before .before .before .before) .args .file .now) ((c .before .before .before .before .before .before .before .before .before .before .before .before) .args .h) (((c .before .before .before .before .before .before .before .before .before .before .before .before) .pre .0) .measured), (((c .before .before .before .before .script-totals) .ensures) .1, omega (arith, nodes-fit ((c .before .before .before .before .before .before .before .before .before .before .before .before) .args .h) (((c .before .before .before .before .before .before .before .before .before .before .before .before) .pre .0) .limits)))))
+trees-are-bad-requires c κs = (((c .before .before .before .before .before .before .before .before .before .before .before .before) .pre .0) .is, (length-said ((c .before .before .before .before .before .before .before .before .before .before .before .before) .args .file .now) ((c .before .before .before .before .before .before .before .before .before .before .before .before) .args .h) (((c .before .before .before .before .before .before .before .before .before .before .before .before) .pre .0) .measured), (((c .before .before .before .before .script-totals) .ensures) .1, (c .before .before .before .before .before .before .before .before .before .before .before .before) .pre .1 .0)))
 
 same-length : tie.Need-same-length
 same-length c = search needs

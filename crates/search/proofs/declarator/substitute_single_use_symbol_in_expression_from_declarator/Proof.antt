@@ -1,11 +1,12 @@
 -- `search::declarator::substitute_single_use_symbol_in_expression_from_declarator` meets its contract. Assumes nothing.
 use native.Mathlib.Omega.{arith}
 use mathlib.Core.Path.{_≡_, refl, sym, ap, _∙_, subst}
+use Rattle.plans.proofs.Children.{stands-room}
 use Rattle.records.specs.File.{read}
 use Rattle.walk.specs.Context.{contextOf}
 use Rattle.declarators.proofs.Cases.{is-given, is-bare, is-name}
 use Rattle.declarators.proofs.Ending.{options-are, pattern-ends, unrecorded-ends, test-ends}
-use Rattle.declarators.proofs.Describing.{root-is, stands-room}
+use Rattle.declarators.proofs.Describing.{root-is}
 use Rattle.search.proofs.Trying.{try-bare, try-ended, try-stopped, try-folded, can-given, holds-name, holds-at, splices-at}
 use Prim.Native.Nat.{_+_, _*_, _≤_}
 use mathlib.Core.Bool.{true}

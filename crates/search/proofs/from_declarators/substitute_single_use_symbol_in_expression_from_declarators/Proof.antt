@@ -1,12 +1,13 @@
 -- `search::from_declarators::substitute_single_use_symbol_in_expression_from_declarators` meets its contract. Assumes nothing.
 use Prim.Native.Nat.{_+_, _*_, _-_}
 use borrow.Author.Needs.{needs}
+use borrow.Author.Tests.{not-true, not-false}
 use native.Mathlib.Omega.{arith}
 use mathlib.Core.Path.{_≡_, refl, sym, ap, _∙_, subst}
 use lib.ListN.{length}
 use Rattle.records.specs.File.{read}
 use Rattle.walk.specs.Context.{contextOf}
-use Rattle.search.proofs.Going.{SomeGoing, going-begins, can-try, some-on, some-ends, some-none, not-on, not-off}
+use Rattle.search.proofs.Going.{SomeGoing, going-begins, can-try, some-on, some-ends, some-none}
 use Rattle.search.proofs.from_declarators.substitute_single_use_symbol_in_expression_from_declarators.Statement.{
   statement,
 }
@@ -41,13 +42,13 @@ shared-slice-read-from c = omega (arith, (c .before .before .before .before .bef
 
 substitute-single-use-symbol-in-expression-from-declarator-requires :
     tie.Need-substitute-single-use-symbol-in-expression-from-declarator-requires Inv-loop μ-loop
-substitute-single-use-symbol-in-expression-from-declarator-requires c κs = ((c .before .before .before .before .before .before .before .before .before) .pre .0, ((c .before .before .before .before .before .before .before .before .before) .pre .1 .0, can-try (contextOf (read ((c .before .before .before .before .before .before .before .before .before) .args .file .now))) ((c .before .before .before .before .before .before .before .before .before) .args .literal-only) ((c .before .before .before .before .before .before .before .before .before) .args .declarators .now) ((c .before .before .before .before .before .before .before .before .before) .args .starts .now) ((c .before .before .before .before .before .before .before .before .before) .args .low) ((c .before .before .before .before .loop) .inv .2) ((c .before .before .declarator-at) .result) ((c .before .before .declarator-at) .ensures) ((c .before .before .before .loop-test) .taken) ((c .before .before .before .before .before .before .before .before .before) .pre .1 .1 .0) ((c .before .before .before .before .loop) .inv .0)))
+substitute-single-use-symbol-in-expression-from-declarator-requires c κs = ((c .before .before .before .before .before .before .before .before .before) .pre .0, ((c .before .before .before .before .before .before .before .before .before) .pre .1 .0, can-try (contextOf (read ((c .before .before .before .before .before .before .before .before .before) .args .file .now))) ((c .before .before .before .before .before .before .before .before .before) .args .literal-only) ((c .before .before .before .before .before .before .before .before .before) .args .declarators .now) ((c .before .before .before .before .before .before .before .before .before) .args .starts .now) ((c .before .before .before .before .before .before .before .before .before) .args .low) ((c .before .before .before .before .loop) .inv .2) ((c .before .before .declarator-at) .result) ((c .before .before .declarator-at) .ensures) (omega (arith, (c .before .before .before .loop-test) .taken, (c .before .before .before .before .loop) .inv .1)) ((c .before .before .before .before .before .before .before .before .before) .pre .1 .1 .0) ((c .before .before .before .before .loop) .inv .0)))
 
 same-length : tie.Need-same-length Inv-loop μ-loop
 same-length c = search needs
 
 returns : tie.Need-returns Inv-loop μ-loop
-returns c = some-ends (contextOf (read ((c .before .before .before .before .before .before .before .before .before .before .before .before .before .before) .args .file .now))) ((c .before .before .before .before .before .before .before .before .before .before .before .before .before .before) .args .literal-only) ((c .before .before .before .before .before .before .before .before .before .before .before .before .before .before) .args .declarators .now) ((c .before .before .before .before .before .before .before .before .before .before .before .before .before .before) .args .starts .now) ((c .before .before .before .before .before .before .before .before .before .before .before .before .before .before) .args .low) ((c .before .before .before .before .before .before .before .before .before .loop) .inv .2) ((c .before .before .before .before .before .before .before .declarator-at) .result) ((c .before .before .before .before .before .before .before .declarator-at) .ensures) ((c .before .before .before .before .before .before .before .before .loop-test) .taken) ((c .before .before .before .before .substitute-single-use-symbol-in-expression-from-declarator) .ensures) (not-on _ ((c .if1) .taken)) refl
+returns c = some-ends (contextOf (read ((c .before .before .before .before .before .before .before .before .before .before .before .before .before .before) .args .file .now))) ((c .before .before .before .before .before .before .before .before .before .before .before .before .before .before) .args .literal-only) ((c .before .before .before .before .before .before .before .before .before .before .before .before .before .before) .args .declarators .now) ((c .before .before .before .before .before .before .before .before .before .before .before .before .before .before) .args .starts .now) ((c .before .before .before .before .before .before .before .before .before .before .before .before .before .before) .args .low) ((c .before .before .before .before .before .before .before .before .before .loop) .inv .2) ((c .before .before .before .before .before .before .before .declarator-at) .result) ((c .before .before .before .before .before .before .before .declarator-at) .ensures) (omega (arith, (c .before .before .before .before .before .before .before .before .loop-test) .taken, (c .before .before .before .before .before .before .before .before .before .loop) .inv .1)) ((c .before .before .before .before .substitute-single-use-symbol-in-expression-from-declarator) .ensures) (not-true _ ((c .if1) .taken)) refl
 
 sub-left : tie.Need-sub-left Inv-loop μ-loop
 sub-left c = omega (arith, (c .before .before .before .before .before .before .before .before .loop-test) .taken)
@@ -59,7 +60,7 @@ loop-less : tie.Need-loop-less Inv-loop μ-loop
 loop-less c = omega (arith, (c .before .before .before .before .before .before .before .before .loop-test) .taken)
 
 loop-again : tie.Need-loop-again Inv-loop μ-loop
-loop-again c = ((c .before .before .before .before .substitute-single-use-symbol-in-expression-from-declarator) .kept .1 .1 .0 ∙ (c .before .before .before .before .before .before .before .before .before .loop) .inv .0, omega (arith, (c .before .before .before .before .before .before .before .before .before .loop) .inv .1, (c .before .before .before .before .before .before .before .before .loop-test) .taken), some-on (contextOf (read ((c .before .before .before .before .before .before .before .before .before .before .before .before .before .before) .args .file .now))) ((c .before .before .before .before .before .before .before .before .before .before .before .before .before .before) .args .literal-only) ((c .before .before .before .before .before .before .before .before .before .before .before .before .before .before) .args .declarators .now) ((c .before .before .before .before .before .before .before .before .before .before .before .before .before .before) .args .starts .now) ((c .before .before .before .before .before .before .before .before .before .before .before .before .before .before) .args .low) ((c .before .before .before .before .before .before .before .before .before .loop) .inv .2) ((c .before .before .before .before .before .before .before .declarator-at) .result) ((c .before .before .before .before .before .before .before .declarator-at) .ensures) ((c .before .before .before .before .before .before .before .before .loop-test) .taken) ((c .before .before .before .before .substitute-single-use-symbol-in-expression-from-declarator) .ensures) (not-off _ ((c .if1) .left)))
+loop-again c = ((c .before .before .before .before .substitute-single-use-symbol-in-expression-from-declarator) .kept .1 .1 .0 ∙ (c .before .before .before .before .before .before .before .before .before .loop) .inv .0, omega (arith, (c .before .before .before .before .before .before .before .before .before .loop) .inv .1, (c .before .before .before .before .before .before .before .before .loop-test) .taken), some-on (contextOf (read ((c .before .before .before .before .before .before .before .before .before .before .before .before .before .before) .args .file .now))) ((c .before .before .before .before .before .before .before .before .before .before .before .before .before .before) .args .literal-only) ((c .before .before .before .before .before .before .before .before .before .before .before .before .before .before) .args .declarators .now) ((c .before .before .before .before .before .before .before .before .before .before .before .before .before .before) .args .starts .now) ((c .before .before .before .before .before .before .before .before .before .before .before .before .before .before) .args .low) ((c .before .before .before .before .before .before .before .before .before .loop) .inv .2) ((c .before .before .before .before .before .before .before .declarator-at) .result) ((c .before .before .before .before .before .before .before .declarator-at) .ensures) (omega (arith, (c .before .before .before .before .before .before .before .before .loop-test) .taken, (c .before .before .before .before .before .before .before .before .before .loop) .inv .1)) ((c .before .before .before .before .substitute-single-use-symbol-in-expression-from-declarator) .ensures) (not-false _ ((c .if1) .left)))
 
 same-length-2 : tie.Need-same-length-2 Inv-loop μ-loop
 same-length-2 c = search needs

@@ -3,7 +3,7 @@ use native.Mathlib.Omega.{arith}
 use mathlib.Core.Path.{_≡_}
 use Rattle.records.specs.File.{read}
 use Rattle.walk.specs.Context.{contextOf, nonScopedLiteralOnly}
-use Rattle.search.proofs.InStatements.{Turn, literal-bit, first-turn, at-first, at-end, declared, searchable, found-fewer, next-turn, at-kept}
+use Rattle.search.proofs.InStatements.{Turn, literal-bit, first-turn, at-first, at-end, fewer-declared, searchable, found-fewer, next-turn, at-kept}
 use borrow.Author.Needs.{needs}
 use Rattle.search.proofs.in_statement.from_statements.Statement.{statement}
 use Rattle.search.proofs.in_statement.from_statements.Tie as tie
@@ -36,7 +36,7 @@ sub-low c =
     let p = (c .before .before .before .before .before .before .before .before .before .before .before .before .before) .pre in
     let l = (c .before .before .before .before .before .before .loop) .inv in
     let s = (c .before .before .before .statement-at) in
-    omega (arith, (c .size) .ensures .0, declared (l .0) (s .result) (s .ensures) ((c .before .before .before .before .before .loop-test) .taken) ((c .before .if1) .left) (p .1 .1 .1 .0))
+    omega (arith, (c .size) .ensures .0, fewer-declared (l .0) (s .result) (s .ensures) (omega (arith, (c .before .before .before .before .before .loop-test) .taken)) (omega (arith, (c .before .if1) .left)) (p .1 .1 .1 .0))
 
 substitute-single-use-symbol-in-expression-from-declarators-requires :
     tie.Need-substitute-single-use-symbol-in-expression-from-declarators-requires Inv-loop μ-loop
@@ -44,7 +44,7 @@ substitute-single-use-symbol-in-expression-from-declarators-requires c κs =
     let p = (c .before .before .before .before .before .before .before .before .before .before .before .before .before .before) .pre in
     let l = (c .before .before .before .before .before .before .before .loop) .inv in
     let s = (c .before .before .before .before .statement-at) in
-    let can = searchable (l .0) (s .result) (s .ensures) ((c .before .before .before .before .before .before .loop-test) .taken) ((c .before .before .if1) .left) (p .1 .1 .1 .0) in
+    let can = searchable (l .0) (s .result) (s .ensures) (omega (arith, (c .before .before .before .before .before .before .loop-test) .taken)) (omega (arith, (c .before .before .if1) .left)) (p .1 .1 .1 .0) in
     (p .0, (p .1 .0, (can (omega (arith, (c .before .size) .ensures .0)), (omega (arith, l .0 .folded, p .1 .1 .1 .1 .0), omega (arith, l .0 .folded, p .1 .1 .1 .1 .1 .0)))))
 
 add-folds : tie.Need-add-folds Inv-loop μ-loop
@@ -53,7 +53,7 @@ add-folds c =
     let l = (c .before .before .before .before .before .before .before .before .before .before .before .loop) .inv in
     let s = (c .before .before .before .before .before .before .before .before .statement-at) in
     let f =
-    found-fewer (l .0) (s .result) (s .ensures) ((c .before .before .before .before .before .before .before .before .before .before .loop-test) .taken) ((c .before .before .before .before .before .before .if1) .left) (l .1) (omega (arith, (c .before .before .before .before .before .size) .ensures .0))
+    found-fewer (l .0) (s .result) (s .ensures) (omega (arith, (c .before .before .before .before .before .before .before .before .before .before .loop-test) .taken)) (omega (arith, (c .before .before .before .before .before .before .if1) .left)) (l .1) (omega (arith, (c .before .before .before .before .before .size) .ensures .0))
     ((c .before .before .before .substitute-single-use-symbol-in-expression-from-declarators) .ensures) (p .1 .1 .1 .0) in
     omega (arith, l .0 .folded, f .1, (c .before .before .before .before .before .before .before .before .before .before .before .before .before .before .before .before .before .before) .fits .many)
 
@@ -63,7 +63,7 @@ sub-put-declaration c =
     let l = (c .before .before .before .before .before .before .before .before .before .before .before .before .before .loop) .inv in
     let s = (c .before .before .before .before .before .before .before .before .before .before .statement-at) in
     let f =
-    found-fewer (l .0) (s .result) (s .ensures) ((c .before .before .before .before .before .before .before .before .before .before .before .before .loop-test) .taken) ((c .before .before .before .before .before .before .before .before .if1) .left) (l .1) (omega (arith, (c .before .before .before .before .before .before .before .size) .ensures .0))
+    found-fewer (l .0) (s .result) (s .ensures) (omega (arith, (c .before .before .before .before .before .before .before .before .before .before .before .before .loop-test) .taken)) (omega (arith, (c .before .before .before .before .before .before .before .before .if1) .left)) (l .1) (omega (arith, (c .before .before .before .before .before .before .before .size) .ensures .0))
     ((c .before .before .before .before .before .substitute-single-use-symbol-in-expression-from-declarators) .ensures) (p .1 .1 .1 .0) in
     omega (arith, f .2)
 
@@ -73,7 +73,7 @@ put-declaration-requires c κs =
     let l = (c .before .before .before .before .before .before .before .before .before .before .before .before .before .loop) .inv in
     let s = (c .before .before .before .before .before .before .before .before .before .before .statement-at) in
     let f =
-    found-fewer (l .0) (s .result) (s .ensures) ((c .before .before .before .before .before .before .before .before .before .before .before .before .loop-test) .taken) ((c .before .before .before .before .before .before .before .before .if1) .left) (l .1) (omega (arith, (c .before .before .before .before .before .before .before .size) .ensures .0))
+    found-fewer (l .0) (s .result) (s .ensures) (omega (arith, (c .before .before .before .before .before .before .before .before .before .before .before .before .loop-test) .taken)) (omega (arith, (c .before .before .before .before .before .before .before .before .if1) .left)) (l .1) (omega (arith, (c .before .before .before .before .before .before .before .size) .ensures .0))
     ((c .before .before .before .before .before .substitute-single-use-symbol-in-expression-from-declarators) .ensures) (p .1 .1 .1 .0) in
     (omega (arith, l .0 .within, l .0 .same-statements, p .1 .1 .1 .1 .1 .1, (c .before .before .before .before .before .before .before .before .before .before .before .before .loop-test) .taken), omega (arith, f .1, (c .before .before .before .before .before .before .before .size) .ensures .1))
 
@@ -87,9 +87,11 @@ loop-again : tie.Need-loop-again Inv-loop μ-loop
 loop-again c =
     let p = (c .before .before .before .before .before .before .before .before .before .before .before .before .before .before .before .before .before .before .before) .pre in
     let l = (c .before .before .before .before .before .before .before .before .before .before .before .before .loop) .inv in
-    let s = (c .before .before .before .before .before .before .before .before .before .statement-at) in (
-      next-turn (l .0) (s .result) (s .ensures) ((c .before .before .before .before .before .before .before .before .before .before .before .loop-test) .taken) ((c .before .before .before .before .before .before .before .if1) .left) (l .1) (omega (arith, (c .before .before .before .before .before .before .size) .ensures .0))
-          ((c .before .before .before .before .substitute-single-use-symbol-in-expression-from-declarators) .ensures) (p .1 .1 .1 .0) ((c .before .before .before .before .substitute-single-use-symbol-in-expression-from-declarators) .kept .1 .1 .0) ((c .if2) .left),
+    let s = (c .before .before .before .before .before .before .before .before .before .statement-at) in
+    let f = found-fewer (l .0) (s .result) (s .ensures) (omega (arith, (c .before .before .before .before .before .before .before .before .before .before .before .loop-test) .taken)) (omega (arith, (c .before .before .before .before .before .before .before .if1) .left)) (l .1) (omega (arith, (c .before .before .before .before .before .before .size) .ensures .0))
+    ((c .before .before .before .before .substitute-single-use-symbol-in-expression-from-declarators) .ensures) (p .1 .1 .1 .0) in (
+      next-turn (l .0) (s .result) (s .ensures) (omega (arith, (c .before .before .before .before .before .before .before .before .before .before .before .loop-test) .taken)) (omega (arith, (c .before .before .before .before .before .before .before .if1) .left)) (l .1) (omega (arith, (c .before .before .before .before .before .before .size) .ensures .0))
+          ((c .before .before .before .before .substitute-single-use-symbol-in-expression-from-declarators) .ensures) (p .1 .1 .1 .0) (omega (arith, (c .before .before .before .before .before .before .before .if1) .left)) ((c .before .before .before .before .substitute-single-use-symbol-in-expression-from-declarators) .kept .1 .1 .0) (omega (arith, (c .if2) .left, f .1, l .0 .folded)),
       l .1,
     )
 
@@ -100,7 +102,7 @@ same-length-2 : tie.Need-same-length-2 Inv-loop μ-loop
 same-length-2 c = search needs
 
 returns : tie.Need-returns Inv-loop μ-loop
-returns c = at-first ((c .before .loop) .inv .0) ((c .loop-test) .left)
+returns c = at-first ((c .before .loop) .inv .0) (omega (arith, (c .loop-test) .left))
 
 same-length-3 : tie.Need-same-length-3 Inv-loop μ-loop
 same-length-3 c = search needs
@@ -111,7 +113,7 @@ same-length-4 c = search needs
 returns-2 : tie.Need-returns-2 Inv-loop μ-loop
 returns-2 c =
     let s = (c .before .before .statement-at) in
-    at-end ((c .before .before .before .before .before .loop) .inv .0) (s .result) (s .ensures) ((c .before .before .before .before .loop-test) .taken) ((c .if1) .taken)
+    at-end ((c .before .before .before .before .before .loop) .inv .0) (s .result) (s .ensures) (omega (arith, (c .before .before .before .before .loop-test) .taken)) (omega (arith, (c .if1) .taken))
 
 same-length-5 : tie.Need-same-length-5 Inv-loop μ-loop
 same-length-5 c = search needs
@@ -124,8 +126,8 @@ returns-3 c =
     let p = (c .before .before .before .before .before .before .before .before .before .before .before .before .before .before .before .before .before .before .before .before .before .before .before) .pre in
     let l = (c .before .before .before .before .before .before .before .before .before .before .before .before .before .before .before .before .loop) .inv in
     let s = (c .before .before .before .before .before .before .before .before .before .before .before .before .before .statement-at) in
-    at-kept (l .0) (s .result) (s .ensures) ((c .before .before .before .before .before .before .before .before .before .before .before .before .before .before .before .loop-test) .taken) ((c .before .before .before .before .before .before .before .before .before .before .before .if1) .left) (l .1) (omega (arith, (c .before .before .before .before .before .before .before .before .before .before .size) .ensures .0))
-    ((c .before .before .before .before .before .before .before .before .substitute-single-use-symbol-in-expression-from-declarators) .ensures) ((c .before .before .before .before .if2) .taken) ((c .before .before .put-declaration) .ensures) (p .1 .1 .1 .1 .1 .1)
+    at-kept (l .0) (s .result) (s .ensures) (omega (arith, (c .before .before .before .before .before .before .before .before .before .before .before .before .before .before .before .loop-test) .taken)) (omega (arith, (c .before .before .before .before .before .before .before .before .before .before .before .if1) .left)) (l .1) (omega (arith, (c .before .before .before .before .before .before .before .before .before .before .size) .ensures .0))
+    ((c .before .before .before .before .before .before .before .before .substitute-single-use-symbol-in-expression-from-declarators) .ensures) (omega (arith, (c .before .before .before .before .before .before .before .before .before .before .before .if1) .left)) (omega (arith, (c .before .before .before .before .if2) .taken)) ((c .before .before .put-declaration) .ensures) (p .1 .1 .1 .1 .1 .1)
 
 pub from-statements-spec : {M : Type 1} → statement M
 from-statements-spec =

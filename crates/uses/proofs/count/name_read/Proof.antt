@@ -11,11 +11,11 @@ returns c = rw ((c .if1) .taken)
 
 returns-2 : tie.Need-returns-2
 unfolding recordRead
-returns-2 c = rw ((c .before .before .if1) .left, (c .before .if2) .taken, (c .if3) .taken)
+returns-2 c = rw ((c .before .before .before .if1) .left, (c .before .before .if2) .taken, (c .if3) .taken)
 
 returns-3 : tie.Need-returns-3
 unfolding recordRead
-returns-3 c = rw ((c .before .before .if1) .left, (c .before .if2) .taken, (c .if3) .left)
+returns-3 c = rw ((c .before .before .before .if1) .left, (c .before .before .if2) .taken, (c .if3) .left)
 
 returns-4 : tie.Need-returns-4
 unfolding recordRead

@@ -1,0 +1,65 @@
+-- `folding::within_declaration::substitute_single_use_symbol_within_declaration` meets its contract. Assumes nothing.
+use mathlib.Core.Path.{_≡_, refl}
+use native.Mathlib.Omega.{arith}
+use lib.ListN.{length}
+use Rattle.records.specs.File.{read}
+use Rattle.walk.specs.Context.{contextOf}
+use Rattle.folding.proofs.Going.{SomeGoing, going-begins, can-go, going-on, going-ends}
+use Rattle.folding.proofs.within_declaration.substitute_single_use_symbol_within_declaration.Statement.{statement}
+use Rattle.folding.proofs.within_declaration.substitute_single_use_symbol_within_declaration.Tie as tie
+
+abbrev Inv-loop : tie.InvT-loop
+Inv-loop file h nodes₀ declarators₀ starts₀ low searched many left₀ q₀ nodes declarators starts left q =
+    (length nodes ≡ length nodes₀) × (length declarators ≡ length declarators₀) × (length starts ≡ length starts₀)
+    × SomeGoing (contextOf (read file)) searched file h low nodes₀ declarators₀ starts₀ many q₀ nodes declarators starts left q
+
+abbrev μ-loop : tie.MeasureT-loop
+μ-loop file h nodes₀ declarators₀ starts₀ low searched many left₀ q₀ nodes declarators starts left q = left
+
+loop-holds : tie.Need-loop-holds Inv-loop μ-loop
+loop-holds c = (refl, refl, refl, going-begins (contextOf (read ((c .before .before .before .before) .args .file .now))) ((c .before .before .before .before) .args .searched) ((c .before .before .before .before) .args .file .now) ((c .before .before .before .before) .args .h) ((c .before .before .before .before) .args .low) ((c .before .before .before .before) .args .many) ((c .before .before .before .before) .args .p))
+
+fold-later-declarator-requires : tie.Need-fold-later-declarator-requires Inv-loop μ-loop
+fold-later-declarator-requires c κs =
+    let i = (c .before .before .before .before .loop) .inv in
+    let x = can-go (contextOf (read ((c .before .before .before .before .before .before .before .before .before) .args .file .now))) ((c .before .before .before .before .before .before .before .before .before) .args .searched) ((c .before .before .before .before .before .before .before .before .before) .args .file .now) ((c .before .before .before .before .before .before .before .before .before) .args .h) ((c .before .before .before .before .before .before .before .before .before) .args .low) (i .3) (omega arith) ((c .before .before .before .before .before .before .before .before .before) .pre .1 .1 .1 .1 .1) in
+    ((c .before .before .before .before .before .before .before .before .before) .pre .0, ((c .before .before .before .before .before .before .before .before .before) .pre .1 .0, (omega (arith, (c .before .before .before .before .before .before .before .before .before) .pre .1 .1 .0), (omega (arith, (c .before .before .before .before .before .before .before .before .before) .pre .1 .1 .1 .0), (omega (arith, (c .before .before .before .before .before .before .before .before .before) .pre .1 .1 .1 .1 .0), x)))))
+
+sub-left : tie.Need-sub-left Inv-loop μ-loop
+sub-left c = omega arith
+
+loop-less : tie.Need-loop-less Inv-loop μ-loop
+loop-less c = omega arith
+
+loop-again : tie.Need-loop-again Inv-loop μ-loop
+loop-again c =
+    let i = (c .before .before .before .before .before .before .before .before .before .before .before .loop) .inv in
+    (omega arith, omega arith, omega arith, going-on (contextOf (read ((c .before .before .before .before .before .before .before .before .before .before .before .before .before .before .before .before) .args .file .now))) ((c .before .before .before .before .before .before .before .before .before .before .before .before .before .before .before .before) .args .searched) ((c .before .before .before .before .before .before .before .before .before .before .before .before .before .before .before .before) .args .file .now) ((c .before .before .before .before .before .before .before .before .before .before .before .before .before .before .before .before) .args .h) ((c .before .before .before .before .before .before .before .before .before .before .before .before .before .before .before .before) .args .low) (i .3) ((c .before .before .before .before .before .before .fold-later-declarator) .ensures) (omega arith))
+
+same-length : tie.Need-same-length Inv-loop μ-loop
+same-length c = omega arith
+
+same-length-2 : tie.Need-same-length-2 Inv-loop μ-loop
+same-length-2 c = omega arith
+
+same-length-3 : tie.Need-same-length-3 Inv-loop μ-loop
+same-length-3 c = omega arith
+
+returns : tie.Need-returns Inv-loop μ-loop
+returns c = going-ends (contextOf (read ((c .before .before .before .before .before .before) .args .file .now))) ((c .before .before .before .before .before .before) .args .searched) ((c .before .before .before .before .before .before) .args .file .now) ((c .before .before .before .before .before .before) .args .h) ((c .before .before .before .before .before .before) .args .low) ((c .before .loop) .inv .3) (omega arith)
+
+pub substitute-single-use-symbol-within-declaration-spec : {M : Type 1} → statement M
+substitute-single-use-symbol-within-declaration-spec =
+    tie.close
+    (tie.spec
+    Inv-loop
+    μ-loop
+    loop-holds
+    fold-later-declarator-requires
+    sub-left
+    loop-less
+    loop-again
+    same-length
+    same-length-2
+    same-length-3
+    returns)

@@ -1,0 +1,54 @@
+-- A row on the way: what the search of the trees that are left does gives what the search of all does.
+use Prim.Native.Nat.{ℕ, _+_, _-_, _≤_}
+use native.Mathlib.Omega.{arith}
+use mathlib.Core.Bool.{Bool, true, false, _||_}
+use mathlib.Core.List.{List}
+use mathlib.Core.Path.{_≡_, refl, sym, ap, _∙_, subst}
+use Rattle.walk.specs.Context.{Context}
+use Rattle.walk.specs.Substitute.{next as nextPlan}
+use Rattle.plans.specs.declared.plan.Plan.{Plan}
+use Rattle.plans.specs.declared.sought.Sought.{Sought}
+use Rattle.plans.specs.declared.walked.Walked.{Walked}
+use Rattle.plans.specs.Shapes.{planned}
+use Rattle.plans.specs.Plans.{isNothing}
+use Rattle.plans.specs.Answers.{isPassed, isReplaced}
+use Rattle.plans.specs.Described.{Known}
+use Rattle.plans.specs.Search.{SearchableRow, Searches, SearchesRow}
+use Rattle.substitute.specs.OfNode.{gather}
+use Rattle.substitute.proofs.Row.{row-both}
+use Rattle.substitute.proofs.Nodes.{others-searchable}
+
+-- nothing before, and two parts before
+gather-none : (r : Walked) → r ≡ gather false 0 r
+gather-none r = ap (λ k. record { next = r .next; place = r .place; looks = k; answer = r .answer; effect = r .effect; indirect = r .indirect }) (omega arith)
+
+gather-both : (a b : Bool) (k m : ℕ) (r : Walked) → gather a k (gather b m r) ≡ gather (a || b) (k + m) r
+gather-both true b k m r = ap (λ n. record { next = r .next; place = r .place; looks = n; answer = r .answer; effect = true; indirect = r .indirect }) (omega arith)
+gather-both false b k m r = ap (λ n. record { next = r .next; place = r .place; looks = n; answer = r .answer; effect = b || r .effect; indirect = r .indirect }) (omega arith)
+
+-- `left` trees from `next` on are left, in the table as it is now; the others had this effect and these looks
+pub record Goes (ctx : Context) (s : Sought) (table₀ : List ℕ) (at many : ℕ) (plan : Plan) (table : List ℕ) (next left : ℕ) (now : Plan) (effect : Bool) (looks : ℕ) : Type 0 where
+  pub row : SearchableRow table next left
+  pub seen : at + looks ≤ next
+  pub on : {table′ : List ℕ} {r : Walked} → SearchesRow ctx s table table′ next left now r → SearchesRow ctx s table₀ table′ at many plan (gather effect looks r)
+
+module _ (ctx : Context) (s : Sought) {table₀ : List ℕ} {at many : ℕ} {plan : Plan} where
+  pub goes-start : SearchableRow table₀ at many → Goes ctx s table₀ at many plan table₀ at many plan false 0
+  goes-start h = record { row = h; seen = omega arith; on = λ {table′} {r} w. subst (SearchesRow ctx s table₀ table′ at many plan) (gather-none r) w }
+
+  pub goes-on : {table table′ : List ℕ} {next left : ℕ} {now : Plan} {effect : Bool} {looks : ℕ} {c : Walked} (after : Plan) → Known s → Goes ctx s table₀ at many plan table next left now effect looks → isNothing now ≡ false
+      → Searches ctx s table table′ next c → (left ≡ 0 → ⊥) → isReplaced (c .answer) ≡ false → isPassed (c .answer) ≡ true → planned after ≡ nextPlan (planned now)
+      → Goes ctx s table₀ at many plan table′ (c .next .0) (left - 1) after (effect || c .effect) (looks + c .looks)
+  goes-on {table} {table′} {next} {left} {now} {effect} {looks} {c} after k g n w z i p e =
+      let (row, later, most) = others-searchable ctx s k (g .row) z w i in
+      record {
+        row = row;
+        seen = omega (arith, g .seen, most);
+        on = λ {table′ = table″} {r} v.
+            subst (SearchesRow ctx s table₀ table″ at many plan) (gather-both effect (c .effect) looks (c .looks) r)
+            (g .on (λ replacement d pre ts rest h m b. row-both ctx s replacement d now n w after ts m z h b p e v (record { answer = refl; next = refl; effects = refl; place = refl; indirect = refl }) refl));
+      }
+
+  pub goes-to : {table table′ : List ℕ} {next left : ℕ} {now : Plan} {effect : Bool} {looks : ℕ} {x r : Walked} → Goes ctx s table₀ at many plan table next left now effect looks
+      → r ≡ gather effect looks x → SearchesRow ctx s table table′ next left now x → SearchesRow ctx s table₀ table′ at many plan r
+  goes-to {table′ = table′} g e w = subst (SearchesRow ctx s table₀ table′ at many plan) (sym e) (g .on w)

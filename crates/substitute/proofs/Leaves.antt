@@ -1,0 +1,132 @@
+-- A node without children that is not the name: the search passes it or ends at it.
+use Prim.Native.Nat.{ℕ, zero, suc, _+_, _*_, _<_}
+use native.Mathlib.Omega.{arith}
+use mathlib.Core.Bool.{Bool, true, false, cond, _&&_, _||_, not, or-false}
+use mathlib.Core.List.{List}
+use mathlib.Core.Path.{_≡_, refl, sym, ap, _∙_, subst}
+use lib.Dec.{eqb, ltb}
+use borrow.Author.Tests.{eqb-true, ltb-true}
+use Rattle.records.specs.Flags.{computed}
+use Rattle.records.specs.Tree.{Node, Tree, Trees, node, none, more, count, sizes, recordOf, nodeOf}
+use Rattle.records.specs.declared.layout.NodeId.{NodeId}
+use Rattle.records.specs.declared.layout.NodeRecord.{NodeRecord}
+use Rattle.records.proofs.Tests.{and-left, and-right, neither, clash}
+use Rattle.table.specs.Laid.{TreeAt}
+use Rattle.table.proofs.Laid.{inside}
+use Rattle.walk.specs.Context.{Context}
+use Rattle.walk.specs.Shape.{is, shape as shapeOf}
+use Rattle.walk.specs.Effect.{hasEffect, anyHasSideEffects}
+use Rattle.walk.specs.Unsettled.{unsettled}
+use Rattle.walk.specs.Looks.{ownLooks, looksInExpression, looksInChildren}
+use Rattle.walk.specs.Substitute.{passed, isSpecificId, mayPass, ofNode, substituteInExpression, substituteInChildren}
+use Rattle.plans.specs.declared.shape.Shape.{Shape}
+use Rattle.plans.specs.declared.shape.Shape.the-variants.{Constant, Identifier, Leaf}
+use Rattle.plans.specs.declared.sought.Sought.{Sought}
+use Rattle.plans.specs.declared.walked.Answer.the-variants.{Passed}
+use Rattle.plans.specs.declared.walked.Walked.{Walked}
+use Rattle.plans.specs.Shapes.{shaped, isAssignment}
+use Rattle.plans.specs.Answers.{byPassing}
+use Rattle.plans.specs.Described.{Describes}
+use Rattle.plans.specs.Passing.{reorders, stopsIn, MayPass}
+use Rattle.plans.specs.Search.{Did, passes, alone}
+use Rattle.plans.proofs.MayPass.{passBy, pass-by, pass-name, pass-settled}
+use Rattle.substitute.specs.OfNode.{isLeaf, OfLeaf}
+use Rattle.substitute.proofs.OfNode.{node-of, of-passing}
+use Rattle.substitute.proofs.Searching.{node-is}
+
+-- The shape of such a node, by the code's tests.
+constant-shape : (m : Node) → (is 1 m || is 2 m || is 27 m) ≡ true → shaped Constant ≡ shapeOf m
+unfolding shapeOf
+constant-shape m h = rw h refl
+
+name-shape : (m : Node) → is 4 m ≡ true → shaped Identifier ≡ shapeOf m
+unfolding shapeOf
+name-shape m h = rw (eqb-true (m .kind) 4 h) refl
+
+leaf-shape : (m : Node) (k : ℕ) → m .kind ≡ k → k < 6 → (is 1 m || is 2 m || is 27 m) ≡ false → is 4 m ≡ false → shaped Leaf ≡ shapeOf m
+unfolding shapeOf
+leaf-shape m zero e l c i = rw e refl
+leaf-shape m (suc zero) e l c i = clash true (subst (λ z. (eqb z 1 || eqb z 2 || eqb z 27) ≡ false) e c) refl
+leaf-shape m (suc (suc zero)) e l c i = clash true (subst (λ z. (eqb z 1 || eqb z 2 || eqb z 27) ≡ false) e c) refl
+leaf-shape m (suc (suc (suc zero))) e l c i = rw e refl
+leaf-shape m (suc (suc (suc (suc zero)))) e l c i = clash true (subst (λ z. eqb z 4 ≡ false) e i) refl
+leaf-shape m (suc (suc (suc (suc (suc zero))))) e l c i = rw e refl
+leaf-shape m (suc (suc (suc (suc (suc (suc k)))))) e l c i = absurd (omega (arith, l))
+
+-- a kind of a leaf that isn't 27
+small : (k : ℕ) → (ltb k 6 || eqb k 27) ≡ true → eqb k 27 ≡ false → k < 6
+small k h e = ltb-true k 6 (first (ltb k 6) (eqb k 27) h e)
+  where
+    first : (a b : Bool) → (a || b) ≡ true → b ≡ false → a ≡ true
+    first true b h e = refl
+    first false b h e = clash b e h
+
+-- a leaf that is neither a constant nor a name
+other-shape : (n : NodeRecord) → (is 1 (nodeOf n) || is 2 (nodeOf n) || is 27 (nodeOf n)) ≡ false → is 4 (nodeOf n) ≡ false → isLeaf n ≡ true → shaped Leaf ≡ shapeOf (nodeOf n)
+unfolding nodeOf
+other-shape n c i k =
+    leaf-shape (nodeOf n) (n .kind) refl (small (n .kind) (and-right (eqb (n .children) 0) (ltb (n .kind) 6 || eqb (n .kind) 27) k) (last (is 1 (nodeOf n)) (is 2 (nodeOf n)) (is 27 (nodeOf n)) c)) c i
+  where
+    last : (a b c : Bool) → (a || b || c) ≡ false → c ≡ false
+    last a b c h = neither (a || b) c h .1
+
+-- whether it may be passed
+module _ (ctx : Context) (n : NodeRecord) (s : Sought) (own : Bool) where
+  pass-constant : MayPass ctx Constant n s own false false true
+  unfolding passBy
+  pass-constant replacement d kids o k t = pass-by ctx n s replacement d kids own false o k Constant false t (unsettled ctx (n .label)) refl
+
+  pass-leaf : MayPass ctx Leaf n s own false false (reorders s own)
+  unfolding passBy
+  pass-leaf replacement d kids o k t = ap (reorders s) (sym (or-false own)) ∙ pass-by ctx n s replacement d kids own false o k Leaf false t (unsettled ctx (n .label)) refl
+
+  pass-moved-name : reorders s own ≡ true → MayPass ctx Identifier n s own false false true
+  pass-moved-name h replacement d kids o k t =
+      sym (pass-name (unsettled ctx (n .label)) (reorders s (own || false)) (not (s .effect) && not false) (computed (n .flags)) false (ap (reorders s) (or-false own) ∙ h))
+      ∙ pass-by ctx n s replacement d kids own false o k Identifier false t (unsettled ctx (n .label)) refl
+
+  pass-kept-name : reorders s own ≡ false → (blocks : Bool) → blocks ≡ unsettled ctx (n .label) → MayPass ctx Identifier n s own false false (not blocks)
+  pass-kept-name h blocks e replacement d kids o k t =
+      pass-settled blocks (reorders s (own || false)) (not (s .effect) && not false) (computed (n .flags)) false (ap (reorders s) (or-false own) ∙ h)
+      ∙ pass-by ctx n s replacement d kids own false o k Identifier false t blocks e
+
+module _ (ctx : Context) (s : Sought) (at : NodeId) (n : NodeRecord) (own : Bool) (o : own ≡ hasEffect (nodeOf n)) (looks : ℕ) (l : looks ≡ ownLooks (nodeOf n)) (next : NodeId) (e : next .0 ≡ at .0 + 1) where
+  -- the search of such a node, by its shape and by whether it may be passed
+  leaf-alone : {q : Walked} {table pre rest : List ℕ} (shape : Shape) (pass : Bool) (replacement : Tree) → Describes s replacement → (m : Node) (kids : Trees) → MayPass ctx shape n s own false false pass → ((kids : Trees) → false ≡ stopsIn ctx replacement (shaped shape) kids)
+      → n ≡ recordOf m (count kids) → shaped shape ≡ shapeOf (nodeOf n) → shaped shape ≡ shapeOf m → isSpecificId (s .name .0) m ≡ false → count kids ≡ 0 → TreeAt table (at .0) (node m kids) pre rest → q ≡ byPassing pass next own looks
+      → Did table (at .0) (more (node m kids) none) pre rest replacement q (alone (node m kids) (substituteInExpression ctx (s .name .0) replacement (node m kids)))
+      × (q .looks ≡ looksInExpression ctx (s .name .0) replacement (node m kids))
+  unfolding substituteInExpression looksInExpression substituteInChildren looksInChildren count sizes anyHasSideEffects
+  leaf-alone {q} {table} {pre} {rest} shape pass replacement d m none w st z i h j c t r =
+      let a : Walked = record { next = next; place = next; looks = 0; answer = Passed; effect = false; indirect = false } in
+      let y : looks ≡ looks + 0 = omega arith in
+      let (u, v) = of-passing ctx table (at .0) false s a q shape n own pass looks i o w l refl (r ∙ ap (λ x. byPassing pass next x looks) (sym (or-false own)) ∙ ap (λ x. byPassing pass next (own || false) x) y) replacement d pre m none rest passed z (st none ∙ ap (λ x. stopsIn ctx replacement x none) h) (passes refl (inside t) (e ∙ omega arith) refl) in
+      rw j (u, v)
+  leaf-alone shape pass replacement d m (more x xs) w st z i h j c t r = absurd (omega (arith, c))
+
+  pub leaf-searched : {q : Walked} (shape : Shape) (pass : Bool) → MayPass ctx shape n s own false false pass → ((replacement : Tree) (kids : Trees) → false ≡ stopsIn ctx replacement (shaped shape) kids)
+      → (isLeaf n ≡ true → shaped shape ≡ shapeOf (nodeOf n)) → q ≡ byPassing pass next own looks → OfLeaf ctx (at .0) n s q
+  unfolding recordOf
+  leaf-searched shape pass w st h r table e k i replacement d pre (node m kids) rest t b =
+      let z = node-is e t in
+      let f = ap nodeOf z ∙ node-of m (count kids) in
+      let c : count kids ≡ 0 = sym (ap (λ x. x .children) z) ∙ eqb-true (n .children) 0 (and-left (eqb (n .children) 0) (ltb (n .kind) 6 || eqb (n .kind) 27) k) in
+      leaf-alone shape pass replacement d m kids w (st replacement) z (h k) (h k ∙ ap shapeOf f) (subst (λ x. isSpecificId (s .name .0) x ≡ false) f i) c t r
+
+  -- the code's three ways
+  pub leaf-passed : {q : Walked} (moves : Bool) → moves ≡ reorders s own → (eqb (n .kind) 1 || eqb (n .kind) 2 || eqb (n .kind) 27 || moves) ≡ true → q ≡ byPassing true next own looks → OfLeaf ctx (at .0) n s q
+  unfolding nodeOf
+  leaf-passed {q} moves w h r = by (eqb (n .kind) 1 || eqb (n .kind) 2 || eqb (n .kind) 27) refl (eqb (n .kind) 4) refl (subst (λ x. (eqb (n .kind) 1 || eqb (n .kind) 2 || eqb (n .kind) 27 || x) ≡ true) w h)
+    where
+      by : (constant : Bool) → (eqb (n .kind) 1 || eqb (n .kind) 2 || eqb (n .kind) 27) ≡ constant → (name : Bool) → eqb (n .kind) 4 ≡ name → (constant || reorders s own) ≡ true → OfLeaf ctx (at .0) n s q
+      by true c name i h = leaf-searched Constant true (pass-constant ctx n s own) (λ R kids. refl) (λ k. constant-shape (nodeOf n) c) r
+      by false c true i h = leaf-searched Identifier true (pass-moved-name ctx n s own h) (λ R kids. refl) (λ k. name-shape (nodeOf n) i) r
+      by false c false i h = leaf-searched Leaf true (subst (MayPass ctx Leaf n s own false false) h (pass-leaf ctx n s own)) (λ R kids. refl) (λ k. other-shape n c i k) r
+
+  pub leaf-name : {q : Walked} (blocks : Bool) → eqb (n .kind) 4 ≡ true → reorders s own ≡ false → blocks ≡ unsettled ctx (n .label) → q ≡ byPassing (not blocks) next own looks → OfLeaf ctx (at .0) n s q
+  unfolding nodeOf
+  leaf-name blocks i m u r = leaf-searched Identifier (not blocks) (pass-kept-name ctx n s own m blocks u) (λ R kids. refl) (λ k. name-shape (nodeOf n) i) r
+
+  pub leaf-stopped : {q : Walked} → (eqb (n .kind) 1 || eqb (n .kind) 2 || eqb (n .kind) 27) ≡ false → eqb (n .kind) 4 ≡ false → reorders s own ≡ false → q ≡ byPassing false next own looks → OfLeaf ctx (at .0) n s q
+  unfolding nodeOf
+  leaf-stopped c i m r = leaf-searched Leaf false (subst (MayPass ctx Leaf n s own false false) m (pass-leaf ctx n s own)) (λ R kids. refl) (λ k. other-shape n c i k) r
