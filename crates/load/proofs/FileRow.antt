@@ -67,11 +67,6 @@ module _ {file : List ℕ} {from at total : ℕ} {t : Tree} {ts : Trees} {before
     inside = h .inside;
   }
 
-  -- So the trees of a file can be loaded one after the other.
-  pub is-next : FileRow file from at (more t ts) total before behind
-      → FileTree file from at t total before (preorders ts behind) × FileRow file from (at + size t) ts total (before ++ preorder t []) behind
-  is-next h = (first h, beyond h)
-
 -- the row of all trees of a file
 pub all-trees : {file : List ℕ} {from total : ℕ} (ts : Trees) → recordsFrom (nodeAt file) nodeLength total from ≡ preorders ts []
     → from + nodeLength * total ≤ length file → FileRow file from 0 ts total [] []

@@ -11,9 +11,9 @@ use Rattle.records.specs.Records.{recordsFrom, bytesOf}
 use Rattle.records.specs.Tree.{Tree, size}
 use Rattle.records.specs.declared.layout.NodeRecord.{NodeRecord}
 use Rattle.table.specs.Table.{workBytes}
-use Rattle.table.specs.Laid.{laid, laids, TreeAt}
+use Rattle.table.specs.Laid.{laid}
 use Rattle.table.proofs.Laid.{laid-preorder}
-use Rattle.load.specs.Load.{FileTree, Loads}
+use Rattle.load.specs.Load.{FileTree}
 use Rattle.load.proofs.FileRow.{tree-records}
 
 -- the bytes behind the first `end` written anew
@@ -40,11 +40,3 @@ pub loaded : {file : List ℕ} {from at total : ℕ} {t : Tree} {before behind :
 loaded {t = t} h end many table new pre rest e is long copied =
     put-last end table pre rest new is long
     ∙ ap (λ (l : List ℕ). pre ++ l) (copied ∙ rw (e, tree-records h, last-part end table pre rest is long, laid-preorder t (drop (16 * size t) rest)))
-
--- A tree that is loaded stands in the table.
-pub loaded-stands : {file : List ℕ} {from at total : ℕ} {t : Tree} {before behind : List NodeRecord} → FileTree file from at t total before behind
-    → {table table′ : List ℕ} {used many : ℕ} → Loads file from at table table′ used many → (pre rest : List ℕ) → table ≡ pre ++ rest → length pre ≡ 16 * used
-    → TreeAt table′ used t pre (drop (16 * size t) rest)
-unfolding laids
-loaded-stands {total = total} {t} {before} {behind} h l pre rest is long =
-    record { is = l t total before behind h pre rest is long .1; starts = long }

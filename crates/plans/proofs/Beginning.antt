@@ -72,7 +72,7 @@ assigns Optional a = clash false refl a
 assigns Steps a = clash false refl a
 
 -- a tagged template is none
-tag-steps : (n : Node) → is 24 n ≡ true → shape n ≡ steps never
+pub tag-steps : (n : Node) → is 24 n ≡ true → shape n ≡ steps never
 unfolding shape
 tag-steps n e = rw (eqb-true (n .kind) 24 e) refl
 

@@ -13,17 +13,13 @@ use Rattle.records.specs.declared.layout.NodeRecord.{NodeRecord}
 use Rattle.roundtrip.proofs.Series.{read-one}
 use Rattle.table.specs.Table.{workBytes, unknownEnd}
 use Rattle.table.specs.Laid.{laid, laids}
-use Rattle.table.proofs.Laid.{work-reads, work-length, laid-length, laid-split}
+use Rattle.table.proofs.Laid.{size-least, work-reads, work-length, laid-length, laid-split}
 use Rattle.walk.specs.Substitute.{at, preserveIndirectAccess}
 use Rattle.walk.proofs.Sizes.{size-at}
 use Rattle.splice.specs.Blocks.{Exchanges, Overwrites, sequenceRecord, literalRecord, KeepsIndirect}
 use Rattle.splice.specs.Copies.{Copies}
 use Rattle.splice.specs.Splice.{Before, After, substituted}
 use Rattle.splice.proofs.Rotation.{Blocks, shifted-down}
-
-size-positive : (t : Tree) → 1 ≤ size t
-unfolding size
-size-positive (node n kids) = omega arith
 
 size-indirect : (t : Tree) → size (preserveIndirectAccess t) ≡ size t + 2
 unfolding preserveIndirectAccess size sizes
@@ -75,7 +71,7 @@ module _ {b0 : List ℕ} {from target place used : ℕ} {t : Tree} {name : NodeR
 
   -- how the numbers lie
   pub bounds : (from + 1 ≤ target) × (target ≤ place) × (place + 1 ≤ used) × (16 * used ≤ length b0)
-  bounds = omega (arith, size-positive t, h .searched, h .found, h .ends, behind)
+  bounds = omega (arith, size-least t, h .searched, h .found, h .ends, behind)
 
   -- what is read at the place
   pub name-read : nodeAt b0 (16 * place) ≡ name

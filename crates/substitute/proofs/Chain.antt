@@ -1,4 +1,4 @@
--- The search through nodes with one child each.
+-- The search down through first children, and back.
 use Prim.Native.Nat.{ℕ, _+_, _*_, _-_, _≤_, _<_}
 use native.Mathlib.Omega.{arith}
 use mathlib.Core.Bool.{Bool, true, false, cond, _&&_, _||_, not}
@@ -17,99 +17,124 @@ use Rattle.table.proofs.Before.{node-before}
 use Rattle.table.proofs.Laid.{inside}
 use Rattle.walk.specs.Context.{Context}
 use Rattle.walk.specs.Effect.{mayHaveSideEffects}
-use Rattle.walk.specs.Shape.{is, Choice, never, skips, cuts, picks, Shape as RuleShape, steps, shape}
+use Rattle.walk.specs.Shape.{is, Choice, never, skips, cuts, picks, Shape as RuleShape, constant, identifier, targetName, leaf, chain, import, delete, sequence, property, stopping, assignment, steps, shape}
 use Rattle.walk.specs.Looks.{ownLooks, looksInExpression, looksInChildren}
-use Rattle.walk.specs.Substitute.{Answer as RuleAnswer, replaced, stopped, passed, isSpecificId, keepsCallee, keepsIndirect, planFor, plan, inOrder, substituteInExpression, substituteInChildren}
+use Rattle.walk.specs.Substitute.{Answer as RuleAnswer, replaced, stopped, passed, isSpecificId, keepsCallee, keepsIndirect, first, next as nextPlan, planFor, plan, substituteInExpression, substituteInChildren}
 use Rattle.plans.specs.declared.plan.Plan.{Plan}
 use Rattle.plans.specs.declared.plan.Plan.the-variants.{All, First, Test}
 use Rattle.plans.specs.declared.sought.Sought.{Sought}
 use Rattle.plans.specs.declared.walked.Walked.{Walked}
 use Rattle.plans.specs.Shapes.{planned}
-use Rattle.plans.specs.Plans.{isNothing}
+use Rattle.plans.specs.Plans.{isNothing, isBranches}
+use Rattle.plans.specs.declared.walked.Answer.{Answer}
+use Rattle.plans.specs.declared.walked.Answer.the-variants.{Replaced, Stopped, Passed}
+use Rattle.plans.specs.Answers.{isPassed, isReplaced}
+use Rattle.effects.specs.Passes.{Passes}
 use Rattle.plans.specs.Described.{Describes, Known}
 use Rattle.plans.specs.Passing.{stopsIn}
-use Rattle.plans.specs.Search.{bareNames, allBareNames, Searchable, Did, passes, stops, replaces, alone, Searches, SearchesRow}
-use Rattle.plans.proofs.Behind.{all-bare}
-use Rattle.substitute.specs.OfNode.{behind, OfNode}
-use Rattle.substitute.specs.Links.{IsLink, Links, start, link, Within}
-use Rattle.substitute.proofs.Nodes.{one-searched, looks-in-room}
-use Rattle.substitute.proofs.Searching.{searchable-room, bare-node, node-is}
+use Rattle.plans.specs.Search.{Searchable, SearchableRow, Did, passes, stops, replaces, Searches, SearchesRow}
+use Rattle.substitute.specs.OfNode.{behind, gather, OfNode}
+use Rattle.substitute.specs.Links.{linkPlan, IsLink, Links, start, link, Within, FirstSearched}
+use Rattle.substitute.proofs.Row.{row-replaced, row-both, row-stopped}
+use Rattle.substitute.proofs.Nodes.{one-searched, others-searchable, looks-in-room}
+use Rattle.substitute.proofs.Searching.{searchable-room, first-searchable, bare-node, node-is}
 use Rattle.substitute.proofs.OfNode.{node-of}
 
+by-test : (holds : Plan → Bool) (b : Bool) (p : Plan) → holds First ≡ false → holds p ≡ false → holds (cond b First p) ≡ false
+by-test holds true p f h = f
+by-test holds false p f h = h
+
+planned-or : (b : Bool) (p : Plan) → planned (cond b First p) ≡ cond b first (planned p)
+planned-or true p = refl
+planned-or false p = refl
+
+-- The plan of a link enters the first child.
+pub plan-enters : (s : Sought) (x : RuleShape) → isNothing (linkPlan s x) ≡ false
+plan-enters s constant = refl
+plan-enters s identifier = refl
+plan-enters s targetName = refl
+plan-enters s leaf = refl
+plan-enters s chain = refl
+plan-enters s import = refl
+plan-enters s delete = refl
+plan-enters s sequence = refl
+plan-enters s property = refl
+plan-enters s stopping = refl
+plan-enters s (assignment c) = refl
+plan-enters s (steps never) = refl
+plan-enters s (steps skips) = by-test isNothing (s .effect) All refl refl
+plan-enters s (steps cuts) = by-test isNothing (s .effect) All refl refl
+plan-enters s (steps picks) = by-test isNothing (s .effect) Test refl refl
+
+pub plan-no-branches : (s : Sought) (x : RuleShape) → isBranches (linkPlan s x) ≡ false
+plan-no-branches s constant = refl
+plan-no-branches s identifier = refl
+plan-no-branches s targetName = refl
+plan-no-branches s leaf = refl
+plan-no-branches s chain = refl
+plan-no-branches s import = refl
+plan-no-branches s delete = refl
+plan-no-branches s sequence = refl
+plan-no-branches s property = refl
+plan-no-branches s stopping = refl
+plan-no-branches s (assignment c) = refl
+plan-no-branches s (steps never) = refl
+plan-no-branches s (steps skips) = by-test isBranches (s .effect) All refl refl
+plan-no-branches s (steps cuts) = by-test isBranches (s .effect) All refl refl
+plan-no-branches s (steps picks) = by-test isBranches (s .effect) Test refl refl
+
 -- A link, by its shape.
-module _ (n : NodeRecord) (s : Sought) (one : n .children ≡ 1) (other : is 4 (nodeOf n) ≡ false) where
-  by-choice : (ctx : Context) (name : ℕ) (replacement : Tree) (c : Choice) (kids : Trees) → keepsCallee replacement (nodeOf n) kids ≡ false → keepsIndirect name replacement (nodeOf n) kids ≡ false
-      → (p : Plan) × (isNothing p ≡ false) × (planned p ≡ plan ctx name replacement (steps c) (nodeOf n) kids)
+module _ (n : NodeRecord) (s : Sought) (some : n .children ≡ 0 → ⊥) (other : is 4 (nodeOf n) ≡ false) where
+  by-choice : (ctx : Context) (name : ℕ) (replacement : Tree) → Describes s replacement → (c : Choice) (kids : Trees) → keepsCallee replacement (nodeOf n) kids ≡ false → keepsIndirect name replacement (nodeOf n) kids ≡ false
+      → planned (linkPlan s (steps c)) ≡ plan ctx name replacement (steps c) (nodeOf n) kids
   unfolding plan planFor
-  by-choice ctx name replacement never kids k i = (All, refl, rw (k, i) refl)
-  by-choice ctx name replacement skips kids k i = by-effect (mayHaveSideEffects replacement) refl
-    where
-      by-effect : (b : Bool) → mayHaveSideEffects replacement ≡ b → (p : Plan) × (isNothing p ≡ false) × (planned p ≡ plan ctx name replacement (steps skips) (nodeOf n) kids)
-      by-effect true e = (First, refl, rw (k, e) refl)
-      by-effect false e = (All, refl, rw (k, e) refl)
-  by-choice ctx name replacement cuts kids k i = by-effect (mayHaveSideEffects replacement) refl
-    where
-      by-effect : (b : Bool) → mayHaveSideEffects replacement ≡ b → (p : Plan) × (isNothing p ≡ false) × (planned p ≡ plan ctx name replacement (steps cuts) (nodeOf n) kids)
-      by-effect true e = (First, refl, rw (k, e) refl)
-      by-effect false e = (All, refl, rw (k, e) refl)
-  by-choice ctx name replacement picks kids k i = by-effect (mayHaveSideEffects replacement) refl
-    where
-      by-effect : (b : Bool) → mayHaveSideEffects replacement ≡ b → (p : Plan) × (isNothing p ≡ false) × (planned p ≡ plan ctx name replacement (steps picks) (nodeOf n) kids)
-      by-effect true e = (First, refl, rw (k, e) refl)
-      by-effect false e = (Test, refl, rw (k, e) refl)
+  by-choice ctx name replacement d never kids k i = rw (k, i) refl
+  by-choice ctx name replacement d skips kids k i = rw (k, ← d .effect) (planned-or (s .effect) All)
+  by-choice ctx name replacement d cuts kids k i = rw (k, ← d .effect) (planned-or (s .effect) All)
+  by-choice ctx name replacement d picks kids k i = rw (k, ← d .effect) (planned-or (s .effect) Test)
 
   pub link-steps : (c : Choice) → shape (nodeOf n) ≡ steps c → ((replacement : Tree) → Describes s replacement → (kids : Trees) → keepsCallee replacement (nodeOf n) kids ≡ false)
       → ((name : ℕ) (replacement : Tree) → Describes s replacement → (kids : Trees) → keepsIndirect name replacement (nodeOf n) kids ≡ false) → IsLink n s
   link-steps c e k i = record {
-    one = one;
+    some = some;
     other = other;
     steady = λ ctx replacement kids. sym (ap (λ x. stopsIn ctx replacement x kids) e);
-    enters = λ ctx replacement d t. subst (λ x. (p : Plan) × (isNothing p ≡ false) × (planned p ≡ plan ctx (s .name .0) replacement x (nodeOf n) (more t none))) (sym e) (by-choice ctx (s .name .0) replacement c (more t none) (k replacement d (more t none)) (i (s .name .0) replacement d (more t none)));
+    enters = λ ctx replacement d kids. subst (λ x. planned (linkPlan s x) ≡ plan ctx (s .name .0) replacement x (nodeOf n) kids) (sym e) (by-choice ctx (s .name .0) replacement d c kids (k replacement d kids) (i (s .name .0) replacement d kids));
   }
 
-  pub link-shaped : (x : RuleShape) (p : Plan) → shape (nodeOf n) ≡ x → isNothing p ≡ false → ((ctx : Context) (replacement : Tree) (kids : Trees) → false ≡ stopsIn ctx replacement x kids)
-      → ((ctx : Context) (name : ℕ) (replacement : Tree) (kids : Trees) → planned p ≡ plan ctx name replacement x (nodeOf n) kids) → IsLink n s
-  link-shaped x p e h t w = record {
-    one = one;
+  pub link-shaped : (x : RuleShape) → shape (nodeOf n) ≡ x → ((ctx : Context) (replacement : Tree) (kids : Trees) → false ≡ stopsIn ctx replacement x kids)
+      → ((ctx : Context) (name : ℕ) (replacement : Tree) (kids : Trees) → planned (linkPlan s x) ≡ plan ctx name replacement x (nodeOf n) kids) → IsLink n s
+  link-shaped x e t w = record {
+    some = some;
     other = other;
     steady = λ ctx replacement kids. t ctx replacement kids ∙ sym (ap (λ y. stopsIn ctx replacement y kids) e);
-    enters = λ ctx replacement d u. (p, h, w ctx (s .name .0) replacement (more u none) ∙ sym (ap (λ y. plan ctx (s .name .0) replacement y (nodeOf n) (more u none)) e));
+    enters = λ ctx replacement d kids. subst (λ y. planned (linkPlan s y) ≡ plan ctx (s .name .0) replacement y (nodeOf n) kids) (sym e) (w ctx (s .name .0) replacement kids);
   }
 
--- its only child
-only : {table : List ℕ} {at : ℕ} {m : Node} {pre rest : List ℕ} (kids : Trees) → count kids ≡ 1 → TreeAt table at (node m kids) pre rest → allBareNames kids ≡ true → Searchable table (at + 1)
-unfolding count
-only {pre = pre} {rest} none c t b = absurd (omega (arith, c))
-only {m = m} {pre} {rest} (more u none) c t b = (pre ++ workBytes (recordOf m (count (more u none))), u, rest, inside t, all-bare u none b .0)
-only (more u (more v vs)) c t b = absurd (omega (arith, c))
-
-one-child : {table : List ℕ} {at : ℕ} {m : Node} {kids : Trees} {pre rest : List ℕ} (n : NodeRecord) → n ≡ nodeAt table (16 * at) → n .children ≡ 1 → TreeAt table at (node m kids) pre rest → count kids ≡ 1
+-- the children of a node, as a row
+counted : {table : List ℕ} {at : ℕ} {m : Node} {kids : Trees} {pre rest : List ℕ} (n : NodeRecord) → n ≡ nodeAt table (16 * at) → TreeAt table at (node m kids) pre rest → count kids ≡ n .children
 unfolding recordOf
-one-child {m = m} {kids} n e o t = sym (ap (λ x. x .children) (node-is e t)) ∙ o
+counted n e t = sym (ap (λ x. x .children) (node-is e t))
+
+pub children-row : {table : List ℕ} {at : ℕ} → Searchable table at → SearchableRow table (at + 1) (nodeAt table (16 * at) .children)
+children-row {table} {at} (pre, node m kids, rest, t, b) = (pre ++ workBytes (recordOf m (count kids)), kids, rest, inside t, counted (nodeAt table (16 * at)) refl t, bare-node m kids b .1)
 
 pub next-searchable : {table : List ℕ} {at : ℕ} (s : Sought) → Searchable table at → IsLink (nodeAt table (16 * at)) s → Searchable table (at + 1)
-next-searchable {table} {at} s (pre, node m kids, rest, t, b) l = only kids (one-child (nodeAt table (16 * at)) refl (l .one) t) t (bare-node m kids b .1)
+next-searchable s h l = first-searchable (children-row h) (l .some)
 
--- the search of a link, from that of its child
-module _ (ctx : Context) (s : Sought) {table table′ table″ : List ℕ} {at : ℕ} {r q : Walked} (n : NodeRecord) (e : n ≡ nodeAt table (16 * at)) (l : IsLink n s) (w : Searches ctx s table table′ (at + 1) r) (o : OfNode ctx table′ table″ at n false s (behind false r) q) where
-  through : (replacement : Tree) → Describes s replacement → (pre : List ℕ) (m : Node) (kids : Trees) (rest : List ℕ) → TreeAt table at (node m kids) pre rest → bareNames (node m kids) ≡ true → count kids ≡ 1
-      → Did table″ at (more (node m kids) none) pre rest replacement q (alone (node m kids) (substituteInExpression ctx (s .name .0) replacement (node m kids)))
-      × (q .looks ≡ looksInExpression ctx (s .name .0) replacement (node m kids))
-  unfolding substituteInExpression looksInExpression count isSpecificId
-  through replacement d pre m none rest t b c = absurd (omega (arith, c))
-  through replacement d pre m (more u (more v vs)) rest t b c = absurd (omega (arith, c))
-  through replacement d pre m (more u none) rest t b c =
-      let z = node-is e t in
-      let f : nodeOf n ≡ m = ap nodeOf z ∙ node-of m (count (more u none)) in
-      let (p, h, g) = l .enters ctx replacement d u in
-      let g′ : planned p ≡ plan ctx (s .name .0) replacement (shape m) m (more u none) = g ∙ ap (λ x. plan ctx (s .name .0) replacement (shape x) x (more u none)) f in
-      let i : is 4 m ≡ false = sym (ap (is 4) f) ∙ l .other in
-      let (x, y) = one-searched ctx s 1 p refl h w replacement d (pre ++ workBytes (recordOf m (count (more u none)))) (more u none) rest (inside t) refl (bare-node m (more u none) b .1) in
-      let (a, k) = o replacement d pre m (more u none) rest (substituteInChildren ctx (s .name .0) replacement (planned p) (more u none)) z (l .steady ctx replacement (more u none) ∙ ap (λ x. stopsIn ctx replacement (shape x) (more u none)) f) x in
-      rw (i, sym g′) (a, k ∙ ap (λ z. ownLooks m + z) y)
-
+-- the search of a link, from that of its children
+module _ (ctx : Context) (s : Sought) {table table′ table″ : List ℕ} {at : ℕ} {r q : Walked} (n : NodeRecord) (e : n ≡ nodeAt table (16 * at)) (l : IsLink n s) (w : SearchesRow ctx s table table′ (at + 1) (n .children) (linkPlan s (shape (nodeOf n))) r) (o : OfNode ctx table′ table″ at n false s (behind false r) q) where
   pub link-searched : Searches ctx s table table″ at q
-  link-searched replacement d pre (node m kids) rest t b = through replacement d pre m kids rest t b (one-child n e (l .one) t)
+  unfolding substituteInExpression looksInExpression isSpecificId
+  link-searched replacement d pre (node m kids) rest t b =
+      let z = node-is e t in
+      let f : nodeOf n ≡ m = ap nodeOf z ∙ node-of m (count kids) in
+      let p = linkPlan s (shape (nodeOf n)) in
+      let g : planned p ≡ plan ctx (s .name .0) replacement (shape m) m kids = l .enters ctx replacement d kids ∙ ap (λ x. plan ctx (s .name .0) replacement (shape x) x kids) f in
+      let i : is 4 m ≡ false = sym (ap (is 4) f) ∙ l .other in
+      let (x, y) = w replacement d (pre ++ workBytes (recordOf m (count kids))) kids rest (inside t) (counted n e t) (bare-node m kids b .1) in
+      let (a, k) = o replacement d pre m kids rest (substituteInChildren ctx (s .name .0) replacement (planned p) kids) z (l .steady ctx replacement kids ∙ ap (λ x. stopsIn ctx replacement (shape x) kids) f) x in
+      rw (i, ← g) (a, k ∙ ap (λ z. ownLooks m + z) y)
 
 -- A search changes nothing before the tree.
 still-there : {table : List ℕ} {at : ℕ} {ts : Trees} {pre rest : List ℕ} {replacement : Tree} {r : Walked} {b : RuleAnswer Trees} → Did table at ts pre rest replacement r b → (x : List ℕ) × (table ≡ pre ++ x) × (length pre ≡ 16 * at)
@@ -129,7 +154,7 @@ last-link {table} {s} {at} {end} (link {next} e h i ls) l =
     let z : next ≡ end - 1 = omega (arith, e) in
     (subst (Searchable table) z h, subst (λ k. IsLink (nodeAt table (16 * k)) s) z i, subst (Links table s at) z ls)
 
--- one link more was searched
+-- The name was found behind a link.
 module _ (ctx : Context) (s : Sought) {table₀ table : List ℕ} {at end : ℕ} {w : Walked} (g : Within ctx s table₀ table at end w) (l : at < end) where
   pub within-room : 16 * (end - 1) + 16 ≤ length table
   within-room = let (h, i, ls) = last-link (g .links) l in omega (arith, l, g .same, searchable-room h)
@@ -137,22 +162,89 @@ module _ (ctx : Context) (s : Sought) {table₀ table : List ℕ} {at end : ℕ}
   pub within-looks : Known s → 16 * end + 16 * w .looks ≤ length table
   within-looks k = omega (arith, looks-in-room ctx s k (g .here) (g .did), g .same)
 
-  pub within-next : {table′ : List ℕ} {r : Walked} → Known s → (n : NodeRecord) → n ≡ nodeAt table (16 * (end - 1)) → OfNode ctx table table′ (end - 1) n false s (behind false w) r → length table′ ≡ length table → Within ctx s table₀ table′ at (end - 1) r
-  within-next k n e o m =
+  -- the record of the last link is as it was
+  last-same : Known s → (n : NodeRecord) → n ≡ nodeAt table (16 * (end - 1)) → n ≡ nodeAt table₀ (16 * (end - 1))
+  last-same k n e = e ∙ same-before ctx s k (g .here) (g .did) (end - 1) (omega (arith, l))
+
+  last-did : Searches ctx s table₀ table (end - 1 + 1) w
+  last-did = subst (λ x. Searches ctx s table₀ table x w) (omega (arith, l)) (g .did)
+
+  pub within-found : {table′ : List ℕ} {r : Walked} → Known s → (n : NodeRecord) → n ≡ nodeAt table (16 * (end - 1)) → isReplaced (w .answer) ≡ true → OfNode ctx table table′ (end - 1) n false s (behind false w) r → length table′ ≡ length table → Within ctx s table₀ table′ at (end - 1) r
+  within-found k n e rep o m =
       let (h, i, ls) = last-link (g .links) l in
-      let f : n ≡ nodeAt table₀ (16 * (end - 1)) = e ∙ same-before ctx s k (g .here) (g .did) (end - 1) (omega (arith, l)) in
+      let f = last-same k n e in
+      let i′ = subst (λ x. IsLink x s) (sym f) i in
       record {
         later = omega (arith, l);
         links = ls;
         here = h;
-        did = link-searched ctx s n f (subst (λ x. IsLink x s) (sym f) i) (subst (λ x. Searches ctx s table₀ table x w) (omega (arith, l)) (g .did)) o;
+        did = link-searched ctx s n f i′ (λ replacement d pre ts rest t c b. row-replaced ctx s replacement d (linkPlan s (shape (nodeOf n))) (plan-enters s (shape (nodeOf n))) last-did ts c (i′ .some) t b rep) o;
         same = m ∙ g .same;
       }
+
+  -- what is asked for the search of the last link, where the name wasn't found
+  pub within-first : isReplaced (w .answer) ≡ false → FirstSearched ctx s table₀ table (end - 1) w
+  within-first o = let (h, i, ls) = last-link (g .links) l in record { here = h; link = i; did = last-did; not-found = o; same = g .same }
+
+  pub within-behind : {table′ : List ℕ} {r : Walked} → Searches ctx s table₀ table′ (end - 1) r → length table′ ≡ length table → Within ctx s table₀ table′ at (end - 1) r
+  within-behind v m = let (h, i, ls) = last-link (g .links) l in record { later = omega (arith, l); links = ls; here = h; did = v; same = m ∙ g .same }
 
 pub within-all : (ctx : Context) (s : Sought) {table₀ table : List ℕ} {at end : ℕ} {w : Walked} → Within ctx s table₀ table at end w → end ≤ at → Searches ctx s table₀ table at w
 within-all ctx s {table₀} {table} {at} {end} {w} g l = subst (λ x. Searches ctx s table₀ table x w) (omega (arith, l, g .later)) (g .did)
 
--- the first loop ended before the last link
-pub ended : (passing : Bool) (at i : ℕ) → (passing && ltb at i) ≡ false → at < i → passing ≡ false
+-- the loop ended before the last link
+pub ended : (on : Bool) (at i : ℕ) → (on && ltb at i) ≡ false → at < i → on ≡ false
 ended true at i h l = sym (lt-ltb at i l) ∙ h
 ended false at i h l = refl
+
+-- A link whose first child was searched, and the name was not found.
+module _ (ctx : Context) (s : Sought) {table₀ table : List ℕ} {at : ℕ} {first : Walked} (k : Known s) (g : FirstSearched ctx s table₀ table at first) where
+  pub behind-room : 16 * at + 16 ≤ length table
+  behind-room = omega (arith, searchable-room (g .here), g .same)
+
+  module _ (n : NodeRecord) (e : n ≡ nodeAt table (16 * at)) where
+    -- its record, and its children as they were
+    record-was : n ≡ nodeAt table₀ (16 * at)
+    record-was = e ∙ same-before ctx s k (next-searchable s (g .here) (g .link)) (g .did) at (omega arith)
+
+    link-was : IsLink n s
+    link-was = subst (λ x. IsLink x s) (sym record-was) (g .link)
+
+    row-was : SearchableRow table₀ (at + 1) (n .children)
+    row-was = subst (λ x. SearchableRow table₀ (at + 1) (x .children)) (sym record-was) (children-row (g .here))
+
+    pub behind-some : n .children ≡ 0 → ⊥
+    behind-some = link-was .some
+
+    pub behind-row : SearchableRow table (first .next .0) (n .children - 1) × (at + 1 + 1 ≤ first .next .0) × (at + 1 + first .looks ≤ first .next .0)
+    behind-row = others-searchable ctx s k row-was behind-some (g .did) (g .not-found)
+
+    pub behind-looks : 16 * at + 16 + 16 * first .looks ≤ length table
+    behind-looks = omega (arith, looks-in-room ctx s k (next-searchable s (g .here) (g .link)) (g .did), g .same)
+
+    abbrev Row : List ℕ → Walked → Type 0
+    Row table′ a = SearchesRow ctx s table₀ table′ (at + 1) (n .children) (linkPlan s (shape (nodeOf n))) a
+
+    -- the row of its children, where the search ended in the first, where that is the only one, and with the others
+    pub row-ended : {a : Walked} {end : ℕ} {effect : Bool} → isPassed (first .answer) ≡ false → Passes table (first .next .0) (n .children - 1) end effect → a .answer ≡ Stopped → a .next .0 ≡ end → a .looks ≡ first .looks → Row table a
+    row-ended h p x y z = λ replacement d pre ts rest t c b. row-stopped ctx s replacement d (linkPlan s (shape (nodeOf n))) (plan-enters s (shape (nodeOf n))) (g .did) ts c behind-some t b h (g .not-found) (plan-no-branches s (shape (nodeOf n))) p x y z
+
+    pub row-one : n .children - 1 ≡ 0 → Row table first
+    row-one z = one-searched ctx s (n .children) (linkPlan s (shape (nodeOf n))) (one-of behind-some z) (plan-enters s (shape (nodeOf n))) (g .did)
+      where
+        one-of : {m : ℕ} → (m ≡ 0 → ⊥) → m - 1 ≡ 0 → m ≡ 1
+        one-of h z = omega (arith, h, z)
+
+    pub row-all : {table′ : List ℕ} {others all : Walked} (many : ℕ) → many ≡ n .children → (after : Plan) → isPassed (first .answer) ≡ true → planned after ≡ nextPlan (planned (linkPlan s (shape (nodeOf n)))) → SearchesRow ctx s table table′ (first .next .0) (many - 1) after others → all ≡ gather (first .effect) (first .looks) others → Row table′ all
+    row-all {table′} {others} many z after h q v e =
+        subst (Row table′) (sym e)
+        (λ replacement d pre ts rest t c b. row-both ctx s replacement d (linkPlan s (shape (nodeOf n))) (plan-enters s (shape (nodeOf n))) (g .did) after ts c behind-some t b h q (subst (λ k. SearchesRow ctx s table table′ (first .next .0) (k - 1) after others) z v) (record { answer = refl; next = refl; effects = refl; place = refl; indirect = refl }) refl)
+
+    pub behind-searched : {table′ table″ : List ℕ} {a q : Walked} → Row table′ a → OfNode ctx table′ table″ at n false s (behind false a) q → Searches ctx s table₀ table″ at q
+    behind-searched v o = link-searched ctx s n record-was link-was v o
+
+-- what is replaced isn't passed
+pub not-passed : (a : Answer) → isReplaced a ≡ true → isPassed a ≡ false
+not-passed Replaced e = refl
+not-passed Stopped e = refl
+not-passed Passed e = sym e

@@ -1,4 +1,4 @@
--- The kinds of nodes that are links, where they have one child.
+-- The kinds of nodes that are links, where they have children.
 use Prim.Native.Nat.{ℕ}
 use mathlib.Core.Bool.{Bool, true, false, cond, _&&_, _||_, not}
 use mathlib.Core.Path.{_≡_, refl, sym, ap, _∙_, subst}
@@ -11,9 +11,8 @@ use Rattle.records.specs.Tree.{Tree, Trees, nodeOf}
 use Rattle.records.specs.File.{firstTree}
 use Rattle.records.specs.declared.layout.NodeRecord.{NodeRecord}
 use Rattle.walk.specs.Context.{Context}
-use Rattle.walk.specs.Shape.{is, isMemberExpression, never, cuts, steps, chain, import, property, stopping, shape}
+use Rattle.walk.specs.Shape.{is, isMemberExpression, Choice, never, cuts, steps, chain, import, property, sequence, stopping, shape}
 use Rattle.walk.specs.Substitute.{isSpecificId, isMemberTag, keepsCallee, keepsIndirect, plan}
-use Rattle.plans.specs.declared.plan.Plan.the-variants.{All, First}
 use Rattle.plans.specs.declared.sought.Sought.{Sought}
 use Rattle.plans.specs.Shapes.{planned}
 use Rattle.plans.specs.Described.{Describes}
@@ -29,10 +28,10 @@ and-last true true c e = e
 and-last true false c e = refl
 and-last false b c e = refl
 
-module _ (n : NodeRecord) (s : Sought) (one : n .children ≡ 1) where
+module _ (n : NodeRecord) (s : Sought) (some : n .children ≡ 0 → ⊥) where
   -- await, yield, `#x in y`, an array, an object, a template
   pub link-plain : shape (nodeOf n) ≡ steps never → is 4 (nodeOf n) ≡ false → ((replacement : Tree) (kids : Trees) → keepsCallee replacement (nodeOf n) kids ≡ false) → ((name : ℕ) (replacement : Tree) (kids : Trees) → keepsIndirect name replacement (nodeOf n) kids ≡ false) → IsLink n s
-  link-plain e o k i = link-steps n s one o never e (λ replacement d kids. k replacement kids) (λ name replacement d kids. i name replacement kids)
+  link-plain e o k i = link-steps n s some o never e (λ replacement d kids. k replacement kids) (λ name replacement d kids. i name replacement kids)
 
   -- an operator that isn't `delete`
   pub link-unary : n .kind ≡ 9 → not (eqb (n .label) 1) ≡ true → IsLink n s
@@ -41,8 +40,8 @@ module _ (n : NodeRecord) (s : Sought) (one : n .children ≡ 1) where
 
   -- a member, a call, optional or not
   by-optional : (b : Bool) → shape (nodeOf n) ≡ cond b (steps cuts) (steps never) → is 4 (nodeOf n) ≡ false → ((replacement : Tree) → Describes s replacement → (kids : Trees) → keepsCallee replacement (nodeOf n) kids ≡ false) → ((name : ℕ) (replacement : Tree) (kids : Trees) → keepsIndirect name replacement (nodeOf n) kids ≡ false) → IsLink n s
-  by-optional true e o k i = link-steps n s one o cuts e k (λ name replacement d kids. i name replacement kids)
-  by-optional false e o k i = link-steps n s one o never e k (λ name replacement d kids. i name replacement kids)
+  by-optional true e o k i = link-steps n s some o cuts e k (λ name replacement d kids. i name replacement kids)
+  by-optional false e o k i = link-steps n s some o never e k (λ name replacement d kids. i name replacement kids)
 
   pub link-member : shape (nodeOf n) ≡ cond (optional (n .flags)) (steps cuts) (steps never) → is 4 (nodeOf n) ≡ false → ((replacement : Tree) (kids : Trees) → keepsCallee replacement (nodeOf n) kids ≡ false) → ((name : ℕ) (replacement : Tree) (kids : Trees) → keepsIndirect name replacement (nodeOf n) kids ≡ false) → IsLink n s
   link-member e o k i = by-optional (optional (n .flags)) e o (λ replacement d kids. k replacement kids) i
@@ -57,22 +56,30 @@ module _ (n : NodeRecord) (s : Sought) (one : n .children ≡ 1) where
   pub link-tag : n .kind ≡ 24 → not (s .«member_tag») ≡ true → IsLink n s
   unfolding nodeOf shape keepsCallee keepsIndirect
   link-tag e h =
-      link-steps n s one (rw e refl) never (rw e refl) (λ replacement d kids. rw e refl)
+      link-steps n s some (rw e refl) never (rw e refl) (λ replacement d kids. rw e refl)
       (λ name replacement d kids. and-last (is 24 (nodeOf n)) (isSpecificId name (root (firstTree kids))) (isMemberTag replacement) (sym (d .member-tag) ∙ not-true (s .«member_tag») h))
 
   pub link-import : n .kind ≡ 8 → IsLink n s
   unfolding nodeOf shape plan
-  link-import e = link-shaped n s one (rw e refl) import All (rw e refl) refl (λ ctx replacement kids. refl) (λ ctx name replacement kids. refl)
+  link-import e = link-shaped n s some (rw e refl) import (rw e refl) (λ ctx replacement kids. refl) (λ ctx name replacement kids. refl)
 
   pub link-chain : n .kind ≡ 13 → IsLink n s
   unfolding nodeOf shape plan
-  link-chain e = link-shaped n s one (rw e refl) chain All (rw e refl) refl (λ ctx replacement kids. refl) (λ ctx name replacement kids. refl)
+  link-chain e = link-shaped n s some (rw e refl) chain (rw e refl) (λ ctx replacement kids. refl) (λ ctx name replacement kids. refl)
 
   pub link-spread : n .kind ≡ 25 → IsLink n s
   unfolding nodeOf shape plan
-  link-spread e = link-shaped n s one (rw e refl) stopping First (rw e refl) refl (λ ctx replacement kids. refl) (λ ctx name replacement kids. refl)
+  link-spread e = link-shaped n s some (rw e refl) stopping (rw e refl) (λ ctx replacement kids. refl) (λ ctx name replacement kids. refl)
 
   -- a property whose key isn't computed
   pub link-property : n .kind ≡ 26 → not (computed (n .flags)) ≡ true → IsLink n s
   unfolding nodeOf shape plan
-  link-property e h = link-shaped n s one (rw e refl) property All (rw (e, not-true (computed (n .flags)) h) refl) refl (λ ctx replacement kids. refl) (λ ctx name replacement kids. rw (not-true (computed (n .flags)) h) refl)
+  link-property e h = link-shaped n s some (rw e refl) property (rw (e, not-true (computed (n .flags)) h) refl) (λ ctx replacement kids. refl) (λ ctx name replacement kids. rw (not-true (computed (n .flags)) h) refl)
+
+  -- `a && b`, `a ? b : c`, `a, b`
+  pub link-chooses : (c : Choice) → shape (nodeOf n) ≡ steps c → is 4 (nodeOf n) ≡ false → ((replacement : Tree) (kids : Trees) → keepsCallee replacement (nodeOf n) kids ≡ false) → ((name : ℕ) (replacement : Tree) (kids : Trees) → keepsIndirect name replacement (nodeOf n) kids ≡ false) → IsLink n s
+  link-chooses c e o k i = link-steps n s some o c e (λ replacement d kids. k replacement kids) (λ name replacement d kids. i name replacement kids)
+
+  pub link-sequence : n .kind ≡ 28 → IsLink n s
+  unfolding nodeOf shape plan
+  link-sequence e = link-shaped n s some (rw e refl) sequence (rw e refl) (λ ctx replacement kids. refl) (λ ctx name replacement kids. refl)

@@ -13,7 +13,7 @@ use Rattle.records.specs.declared.layout.NodeId.{NodeId}
 use Rattle.records.specs.declared.layout.NodeRecord.{NodeRecord}
 use Rattle.records.proofs.Tests.{both, and-left, and-right, clash}
 use Rattle.table.specs.Laid.{laid, laids, At, TreeAt, RowStands}
-use Rattle.table.proofs.Laid.{room, first, beyond, whole}
+use Rattle.table.proofs.Laid.{size-least, room, first, beyond, whole}
 use Rattle.walk.specs.Context.{Context}
 use Rattle.walk.specs.Substitute.{Answer as RuleAnswer, replaced, stopped, passed, next, inOrder, inBranches, byPlan, ofNode, isSpecificId, substituteInExpression, substituteInChildren}
 use Rattle.walk.specs.Looks.{ownLooks, entersFirst, goesOn, looksInExpression, looksInChildren}
@@ -92,10 +92,6 @@ next-row {table′} {t = t} {ts} {pre} {rest} (stopped t′) (stops e x y z w) h
     (pre ++ laid t′ [], subst (λ k. At table′ k ts (pre ++ laid t′ []) rest) (sym (y ∙ omega (arith, m))) (beyond (whole x)), y ∙ omega arith)
 next-row {table′} {t = t} {ts} {pre} {rest} passed (passes e x y z) h =
     (pre ++ laid t [], subst (λ k. At table′ k ts (pre ++ laid t []) rest) (sym (y ∙ omega arith)) (beyond (whole x)), y ∙ omega arith)
-
-size-least : (t : Tree) → 1 ≤ size t
-unfolding size
-size-least (node n kids) = omega arith
 
 module _ (ctx : Context) (s : Sought) {table table′ : List ℕ} {at many : ℕ} {r : Walked} where
   pub others-searchable : Known s → SearchableRow table at many → (many ≡ 0 → ⊥) → Searches ctx s table table′ at r → isReplaced (r .answer) ≡ false

@@ -35,6 +35,7 @@ use Rattle.plans.specs.Described.{Describes, Known}
 use Rattle.plans.specs.Search.{bareNames, allBareNames, Searchable, SearchableRow, Found, Did, passes, stops, replaces, placed, alone, Searches, SearchesRow}
 use Rattle.plans.specs.Begins.{Behind, Begins, BeginsAt}
 use Rattle.substitute.specs.OfNode.{OfNode}
+use Rattle.plans.proofs.Beginning.{tag-steps}
 use Rattle.plans.proofs.Behind.{all-bare}
 use Rattle.substitute.proofs.Row.{wrong, wrong-off}
 use Rattle.substitute.proofs.OfNode.{node-of}
@@ -130,10 +131,6 @@ tag-kind name replacement m kids h =
     let x = both (is 24 m && isSpecificId name (root (firstTree kids))) (isMemberTag replacement) h in
     both (is 24 m) (isSpecificId name (root (firstTree kids))) (x .0)
 
-tag-shape : (m : Node) → is 24 m ≡ true → shape m ≡ steps never
-unfolding shape
-tag-shape m h = rw (eqb-true (m .kind) 24 h) refl
-
 tag-cleared : (m : Node) → is 24 m ≡ true → cleared m ≡ m
 unfolding cleared
 tag-cleared m h = rw (eqb-true (m .kind) 24 h) refl
@@ -148,7 +145,7 @@ tag-callee replacement m kids h = rw (eqb-true (m .kind) 24 h) refl
 
 tag-plan : (ctx : Context) (name : ℕ) (replacement : Tree) (m : Node) (kids : Trees) → keepsIndirect name replacement m kids ≡ true → plan ctx name replacement (shape m) m kids ≡ tag
 unfolding plan planFor
-tag-plan ctx name replacement m kids h = let k = tag-kind name replacement m kids h .0 in rw (tag-shape m k, tag-callee replacement m kids k, h) refl
+tag-plan ctx name replacement m kids h = let k = tag-kind name replacement m kids h .0 in rw (tag-steps m k, tag-callee replacement m kids k, h) refl
 
 found-tag : {table : List ℕ} {at : ℕ} {pre rest : List ℕ} {replacement : Tree} {r : Walked} (m x : Node) (ts : Trees) → r .place .0 ≡ at + 1 → r .indirect ≡ true
     → TreeAt table at (node m (more (node x none) ts)) pre rest

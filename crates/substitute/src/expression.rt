@@ -9,9 +9,11 @@ ghost use Rattle.walk.specs.Context.{contextOf};
 ghost use Rattle.plans.specs.Described.{Known};
 ghost use Rattle.plans.specs.Plans.{isNothing};
 ghost use Rattle.plans.specs.Search.{Searchable, SearchableRow, Searches, SearchesRow};
+ghost use Rattle.substitute.specs.Links.{SomeFirstSearched, SearchesBehind};
 use crate::leaf::is_leaf;
 use crate::leaf::of_leaf;
 use crate::links::behind_links;
+use crate::links::link_plan;
 use crate::links::of_links;
 use crate::node::is_specific_id;
 use crate::node::of_answered;
@@ -33,6 +35,7 @@ use plans::walked::is_passed;
 use plans::walked::is_replaced;
 use records::layout::Header;
 use records::layout::NodeId;
+use records::number::size;
 use table::work_node;
 
 // One child is left, and the plan enters it.
@@ -57,8 +60,54 @@ pub fn substitute_single_use_symbol_in_expression(
     ensures { λ r. ⌜ Searches (contextOf (read (now (file .entry)))) s (now (nodes .entry)) (now (nodes .exit)) (at .0) r ⌝ }
 {
     let inner = behind_links(nodes, at, s);
-    let w = substitute_single_use_symbol_in_node(file, h, nodes, inner, s);
-    of_links(file, h, nodes, at, inner, s, w)
+    let mut w = substitute_single_use_symbol_in_node(file, h, nodes, inner, s);
+    let mut i = inner.0;
+    let answer = w.answer;
+    let mut replaced = is_replaced(answer);
+    while !replaced & (at.0 < i) {
+        i -= 1;
+        w = substitute_single_use_symbol_behind_first(file, h, nodes, NodeId(i), s, w);
+        let answer = w.answer;
+        replaced = is_replaced(answer);
+    }
+    of_links(nodes, at, NodeId(i), w)
+}
+
+// The search of a link, from that of its first child, where the name was not found.
+fn substitute_single_use_symbol_behind_first(
+    file: &[u8],
+    h: Header,
+    nodes: &mut [u8],
+    at: NodeId,
+    s: Sought,
+    first: Walked,
+) -> Walked
+    requires { ⌜ h ≡ headerOf (now file) ⌝ }
+    requires { ⌜ length (now file) ≡ fileLength h ⌝ }
+    requires { ⌜ Known s ⌝ }
+    requires { ⌜ SomeFirstSearched (contextOf (read (now file))) s (now nodes) (at .0) first ⌝ }
+    ensures { λ r. ⌜ SearchesBehind (contextOf (read (now (file .entry)))) s (now (nodes .entry)) (now (nodes .exit)) (at .0) first r ⌝ }
+{
+    let n = work_node(nodes, at);
+    let left = size(n.children) - 1;
+    let answer = first.answer;
+    let end = first.next;
+    if !is_passed(answer) {
+        let others = pass_row(nodes, end, left);
+        let last = others.next;
+        return of_answered(nodes, at, n, false, stopped(last, first.looks));
+    }
+    if left == 0 {
+        return of_passed(file, h, n, false, s, false, first);
+    }
+    let plan = next_plan(link_plan(n, s));
+    let rest = substitute_single_use_symbol_in_list(file, h, nodes, end, left, plan, s);
+    let children = gathered(first.effect, first.looks, rest);
+    let last = rest.answer;
+    if is_passed(last) {
+        return of_passed(file, h, n, false, s, false, children);
+    }
+    of_answered(nodes, at, n, false, children)
 }
 
 // The search of a node that is no link.

@@ -23,6 +23,10 @@ work-reads = longer node-reads (λ r. u32Bytes unknownEnd) 4 (λ r. refl)
 pub work-length : (r : NodeRecord) → length (workBytes r) ≡ 16
 work-length r = work-reads .measured r
 
+pub size-least : (t : Tree) → 1 ≤ size t
+unfolding size
+size-least (node n kids) = omega arith
+
 -- how long
 mutual
   unfolding laid laids size sizes

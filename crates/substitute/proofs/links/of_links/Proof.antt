@@ -1,88 +1,51 @@
 use native.Mathlib.Omega.{arith}
-use Prim.Native.Nat.{_-_, _<_, _≤_}
-use mathlib.Core.Bool.{Bool, true, false, _&&_}
+use Prim.Native.Nat.{ℕ, _-_, _<_, _≤_}
+use mathlib.Core.Bool.{Bool, true, false}
 use mathlib.Core.List.{List}
-use Prim.Native.Nat.{ℕ}
 use mathlib.Core.Path.{_≡_, refl, sym, ap, _∙_}
 use lib.ListN.{length}
-use lib.Dec.{ltb}
-use borrow.Author.Tests.{ltb-true, lt-ltb}
-use Rattle.records.specs.File.{read}
-use Rattle.records.proofs.Tests.{and-left, and-right}
-use Rattle.walk.specs.Context.{Context, contextOf}
+use Rattle.walk.specs.Context.{Context}
 use Rattle.plans.specs.declared.sought.Sought.{Sought}
 use Rattle.plans.specs.Described.{Known}
-use Rattle.plans.specs.Answers.{isPassed}
+use Rattle.plans.specs.Answers.{isReplaced}
 use Rattle.substitute.specs.Links.{Within}
-use Rattle.substitute.proofs.Chain.{within-room, within-looks, within-next, within-all, ended}
+use Rattle.substitute.proofs.Chain.{within-room, within-looks, within-found, within-all, not-passed}
 use Rattle.substitute.proofs.links.of_links.Statement.{statement}
 use Rattle.substitute.proofs.links.of_links.Tie as tie
 use Rattle.substitute.proofs.links.of_links.Reads as reads
 use Rattle.substitute.proofs.links.of_links.Lts as lts
-use Rattle.plans.proofs.walked.is_passed.Reads as is-passed-reads
 use Rattle.substitute.proofs.node.of_answered.Reads as of-answered-reads
-use Rattle.substitute.proofs.node.of_passed.Reads as of-passed-reads
 use Rattle.table.proofs.work_node.Reads as work-node-reads
 
 abbrev Inv-loop : tie.InvT-loop
-Inv-loop file h nodes at s w₀ i₀ passing₀ w i passing = (passing ≡ isPassed (w .answer)) × ((table₀ : List ℕ) → Within (contextOf (read file)) s table₀ nodes (at .0) i₀ w₀ → Within (contextOf (read file)) s table₀ nodes (at .0) i w)
+Inv-loop nodes₀ at w₀ i₀ nodes w i = (at .0 < i → isReplaced (w .answer) ≡ true) × (length nodes ≡ length nodes₀) × ((ctx : Context) (s : Sought) → Known s → (table₀ : List ℕ) → Within ctx s table₀ nodes₀ (at .0) i₀ w₀ → Within ctx s table₀ nodes (at .0) i w)
 
 abbrev μ-loop : tie.MeasureT-loop
-μ-loop file h nodes at s w₀ i₀ passing₀ w i passing = i
+μ-loop nodes₀ at w₀ i₀ nodes w i = i
 
-abbrev Inv-loop2 : tie.InvT-loop2
-Inv-loop2 file nodes₀ at w₀ i₀ passing nodes w i = (at .0 < i → isPassed (w .answer) ≡ false) × (length nodes ≡ length nodes₀) × ((ctx : Context) (s : Sought) → Known s → (table₀ : List ℕ) → Within ctx s table₀ nodes₀ (at .0) i₀ w₀ → Within ctx s table₀ nodes (at .0) i w)
+loop-holds : tie.Need-loop-holds Inv-loop μ-loop
+loop-holds c = ((c .before) .pre .0, refl, λ ctx s k table₀ g. g)
 
-abbrev μ-loop2 : tie.MeasureT-loop2
-μ-loop2 file nodes₀ at w₀ i₀ passing nodes w i = i
+sub-i : tie.Need-sub-i Inv-loop μ-loop
+sub-i c = omega (arith, ((c .if1) .taken))
 
-is-passed-requires : tie.Need-is-passed-requires Inv-loop μ-loop Inv-loop2 μ-loop2
-is-passed-requires c κs = tt
+work-node-requires : tie.Need-work-node-requires Inv-loop μ-loop
+work-node-requires c κs = within-room (((c .before .before .before .before .before) .pre .1) .0) (((c .before .before .before .before .before) .pre .1) .1) ((c .before .before .before .loop) .inv .2 (((c .before .before .before .before .before) .pre .1) .0) (((c .before .before .before .before .before) .pre .1) .1) (((c .before .before .before .before .before) .pre .1) .2) (((c .before .before .before .before .before) .pre .1) .3) (((c .before .before .before .before .before) .pre .1) .4)) ((c .before .if1) .taken)
 
-loop-holds : tie.Need-loop-holds Inv-loop μ-loop Inv-loop2 μ-loop2
-loop-holds c = ((c .is-passed) .ensures, λ table₀ g. g)
+of-answered-requires : tie.Need-of-answered-requires Inv-loop μ-loop
+of-answered-requires c κs = (within-room (((c .before .before .before .before .before .before .before) .pre .1) .0) (((c .before .before .before .before .before .before .before) .pre .1) .1) ((c .before .before .before .before .before .loop) .inv .2 (((c .before .before .before .before .before .before .before) .pre .1) .0) (((c .before .before .before .before .before .before .before) .pre .1) .1) (((c .before .before .before .before .before .before .before) .pre .1) .2) (((c .before .before .before .before .before .before .before) .pre .1) .3) (((c .before .before .before .before .before .before .before) .pre .1) .4)) ((c .before .before .before .if1) .taken), omega (arith, within-looks (((c .before .before .before .before .before .before .before) .pre .1) .0) (((c .before .before .before .before .before .before .before) .pre .1) .1) ((c .before .before .before .before .before .loop) .inv .2 (((c .before .before .before .before .before .before .before) .pre .1) .0) (((c .before .before .before .before .before .before .before) .pre .1) .1) (((c .before .before .before .before .before .before .before) .pre .1) .2) (((c .before .before .before .before .before .before .before) .pre .1) .3) (((c .before .before .before .before .before .before .before) .pre .1) .4)) ((c .before .before .before .if1) .taken) (((c .before .before .before .before .before .before .before) .pre .1) .2), (c .before .before .before .before .before .loop) .inv .1, (c .before .before .before .before .before .before .before) .good .0))
 
-sub-i : tie.Need-sub-i Inv-loop μ-loop Inv-loop2 μ-loop2
-sub-i c = omega (arith, (ltb-true ((c .before .before .before .before .before .before) .args .at .0) ((c .before .before .loop) .i) (and-right ((c .before .before .loop) .passing) (ltb ((c .before .before .before .before .before .before) .args .at .0) ((c .before .before .loop) .i)) ((c .if1) .taken))))
+loop-less : tie.Need-loop-less Inv-loop μ-loop
+loop-less c = omega (arith, ((c .before .before .before .before .before .before .if1) .taken))
 
-work-node-requires : tie.Need-work-node-requires Inv-loop μ-loop Inv-loop2 μ-loop2
-work-node-requires c κs = within-room (contextOf (read ((c .before .before .before .before .before .before .before) .args .file .now))) ((c .before .before .before .before .before .before .before) .args .s) ((c .before .before .before .loop) .inv .1 (((c .before .before .before .before .before .before .before) .pre .1 .1 .1) .0) (((c .before .before .before .before .before .before .before) .pre .1 .1 .1) .1)) (ltb-true ((c .before .before .before .before .before .before .before) .args .at .0) ((c .before .before .before .loop) .i) (and-right ((c .before .before .before .loop) .passing) (ltb ((c .before .before .before .before .before .before .before) .args .at .0) ((c .before .before .before .loop) .i)) ((c .before .if1) .taken)))
+loop-again : tie.Need-loop-again Inv-loop μ-loop
+loop-again c = (λ l. ap isReplaced ((c .before .before .of-answered) .ensures .1) ∙ (c .before .before .before .before .before .before .before .before .loop) .inv .0 ((c .before .before .before .before .before .before .if1) .taken), (c .before .before .of-answered) .kept .0 ∙ (c .before .before .before .before .before .before .before .before .loop) .inv .1, λ ctx s k table₀ g. within-found ctx s ((c .before .before .before .before .before .before .before .before .loop) .inv .2 ctx s k table₀ g) ((c .before .before .before .before .before .before .if1) .taken) k ((c .before .before .before .before .work-node) .result) ((c .before .before .before .before .work-node) .ensures) ((c .before .before .before .before .before .before .before .before .loop) .inv .0 ((c .before .before .before .before .before .before .if1) .taken)) ((c .before .before .of-answered) .ensures .0 (not-passed ((c .before .before .before .before .before .before .before .before .loop) .w .answer) ((c .before .before .before .before .before .before .before .before .loop) .inv .0 ((c .before .before .before .before .before .before .if1) .taken))) ctx false s) ((c .before .before .of-answered) .kept .0))
 
-of-passed-requires : tie.Need-of-passed-requires Inv-loop μ-loop Inv-loop2 μ-loop2
-of-passed-requires c κs = ((c .before .before .before .before .before .before .before .before) .pre .0, ((c .before .before .before .before .before .before .before .before) .pre .1 .0, omega (arith, within-looks (contextOf (read ((c .before .before .before .before .before .before .before .before) .args .file .now))) ((c .before .before .before .before .before .before .before .before) .args .s) ((c .before .before .before .before .loop) .inv .1 (((c .before .before .before .before .before .before .before .before) .pre .1 .1 .1) .0) (((c .before .before .before .before .before .before .before .before) .pre .1 .1 .1) .1)) (ltb-true ((c .before .before .before .before .before .before .before .before) .args .at .0) ((c .before .before .before .before .loop) .i) (and-right ((c .before .before .before .before .loop) .passing) (ltb ((c .before .before .before .before .before .before .before .before) .args .at .0) ((c .before .before .before .before .loop) .i)) ((c .before .before .if1) .taken))) ((c .before .before .before .before .before .before .before .before) .pre .1 .1 .0), (c .before .before .before .before .before .before .before .before) .good .1 .1 .0)))
+same-length : tie.Need-same-length Inv-loop μ-loop
+same-length c = (c .before .before .loop) .inv .1
 
-is-passed-requires-2 : tie.Need-is-passed-requires-2 Inv-loop μ-loop Inv-loop2 μ-loop2
-is-passed-requires-2 c κs = tt
-
-loop-less : tie.Need-loop-less Inv-loop μ-loop Inv-loop2 μ-loop2
-loop-less c = omega (arith, (ltb-true ((c .before .before .before .before .before .before .before .before .before .before) .args .at .0) ((c .before .before .before .before .before .before .loop) .i) (and-right ((c .before .before .before .before .before .before .loop) .passing) (ltb ((c .before .before .before .before .before .before .before .before .before .before) .args .at .0) ((c .before .before .before .before .before .before .loop) .i)) ((c .before .before .before .before .if1) .taken))))
-
-loop-again : tie.Need-loop-again Inv-loop μ-loop Inv-loop2 μ-loop2
-loop-again c = ((c .is-passed2) .ensures, λ table₀ g. within-next (contextOf (read ((c .before .before .before .before .before .before .before .before .before .before) .args .file .now))) ((c .before .before .before .before .before .before .before .before .before .before) .args .s) ((c .before .before .before .before .before .before .loop) .inv .1 table₀ g) (ltb-true ((c .before .before .before .before .before .before .before .before .before .before) .args .at .0) ((c .before .before .before .before .before .before .loop) .i) (and-right ((c .before .before .before .before .before .before .loop) .passing) (ltb ((c .before .before .before .before .before .before .before .before .before .before) .args .at .0) ((c .before .before .before .before .before .before .loop) .i)) ((c .before .before .before .before .if1) .taken))) ((c .before .before .before .before .before .before .before .before .before .before) .pre .1 .1 .0) ((c .before .before .work-node) .result) ((c .before .before .work-node) .ensures) ((c .before .of-passed) .ensures (sym ((c .before .before .before .before .before .before .loop) .inv .0) ∙ and-left ((c .before .before .before .before .before .before .loop) .passing) (ltb ((c .before .before .before .before .before .before .before .before .before .before) .args .at .0) ((c .before .before .before .before .before .before .loop) .i)) ((c .before .before .before .before .if1) .taken)) ((c .before .before .before .before .before .before .before .before .before .before) .args .nodes .now) ((c .before .before .before .before .before .before .loop) .i - 1)) refl)
-
-loop2-holds : tie.Need-loop2-holds Inv-loop μ-loop Inv-loop2 μ-loop2
-loop2-holds c = (λ l. sym ((c .before .before .loop) .inv .0) ∙ ended ((c .before .before .loop) .passing) ((c .before .before .before .before .before .before) .args .at .0) ((c .before .before .loop) .i) ((c .if1) .left) l, refl, λ ctx s k table₀ g. g)
-
-sub-i-2 : tie.Need-sub-i-2 Inv-loop μ-loop Inv-loop2 μ-loop2
-sub-i-2 c = omega (arith, ((c .if2) .taken))
-
-work-node-requires-2 : tie.Need-work-node-requires-2 Inv-loop μ-loop Inv-loop2 μ-loop2
-work-node-requires-2 c κs = within-room (contextOf (read ((c .before .before .before .before .before .before .before .before .before .before) .args .file .now))) ((c .before .before .before .before .before .before .before .before .before .before) .args .s) ((c .before .before .before .loop2) .inv .2 (contextOf (read ((c .before .before .before .before .before .before .before .before .before .before) .args .file .now))) ((c .before .before .before .before .before .before .before .before .before .before) .args .s) ((c .before .before .before .before .before .before .before .before .before .before) .pre .1 .1 .0) (((c .before .before .before .before .before .before .before .before .before .before) .pre .1 .1 .1) .0) ((c .before .before .before .before .before .before .loop) .inv .1 (((c .before .before .before .before .before .before .before .before .before .before) .pre .1 .1 .1) .0) (((c .before .before .before .before .before .before .before .before .before .before) .pre .1 .1 .1) .1))) ((c .before .if2) .taken)
-
-of-answered-requires : tie.Need-of-answered-requires Inv-loop μ-loop Inv-loop2 μ-loop2
-of-answered-requires c κs = (within-room (contextOf (read ((c .before .before .before .before .before .before .before .before .before .before .before .before) .args .file .now))) ((c .before .before .before .before .before .before .before .before .before .before .before .before) .args .s) ((c .before .before .before .before .before .loop2) .inv .2 (contextOf (read ((c .before .before .before .before .before .before .before .before .before .before .before .before) .args .file .now))) ((c .before .before .before .before .before .before .before .before .before .before .before .before) .args .s) ((c .before .before .before .before .before .before .before .before .before .before .before .before) .pre .1 .1 .0) (((c .before .before .before .before .before .before .before .before .before .before .before .before) .pre .1 .1 .1) .0) ((c .before .before .before .before .before .before .before .before .loop) .inv .1 (((c .before .before .before .before .before .before .before .before .before .before .before .before) .pre .1 .1 .1) .0) (((c .before .before .before .before .before .before .before .before .before .before .before .before) .pre .1 .1 .1) .1))) ((c .before .before .before .if2) .taken), omega (arith, within-looks (contextOf (read ((c .before .before .before .before .before .before .before .before .before .before .before .before) .args .file .now))) ((c .before .before .before .before .before .before .before .before .before .before .before .before) .args .s) ((c .before .before .before .before .before .loop2) .inv .2 (contextOf (read ((c .before .before .before .before .before .before .before .before .before .before .before .before) .args .file .now))) ((c .before .before .before .before .before .before .before .before .before .before .before .before) .args .s) ((c .before .before .before .before .before .before .before .before .before .before .before .before) .pre .1 .1 .0) (((c .before .before .before .before .before .before .before .before .before .before .before .before) .pre .1 .1 .1) .0) ((c .before .before .before .before .before .before .before .before .loop) .inv .1 (((c .before .before .before .before .before .before .before .before .before .before .before .before) .pre .1 .1 .1) .0) (((c .before .before .before .before .before .before .before .before .before .before .before .before) .pre .1 .1 .1) .1))) ((c .before .before .before .if2) .taken) ((c .before .before .before .before .before .before .before .before .before .before .before .before) .pre .1 .1 .0), (c .before .before .before .before .before .loop2) .inv .1, (c .before .before .before .before .before .before .before .before .before .before .before .before) .good .1 .1 .0))
-
-loop2-less : tie.Need-loop2-less Inv-loop μ-loop Inv-loop2 μ-loop2
-loop2-less c = omega (arith, ((c .before .before .before .before .before .before .if2) .taken))
-
-loop2-again : tie.Need-loop2-again Inv-loop μ-loop Inv-loop2 μ-loop2
-loop2-again c = (λ l. ap isPassed ((c .before .before .of-answered) .ensures .1) ∙ (c .before .before .before .before .before .before .before .before .loop2) .inv .0 ((c .before .before .before .before .before .before .if2) .taken), (c .before .before .of-answered) .kept .0 ∙ (c .before .before .before .before .before .before .before .before .loop2) .inv .1, λ ctx s k table₀ g. within-next ctx s ((c .before .before .before .before .before .before .before .before .loop2) .inv .2 ctx s k table₀ g) ((c .before .before .before .before .before .before .if2) .taken) k ((c .before .before .before .before .work-node2) .result) ((c .before .before .before .before .work-node2) .ensures) ((c .before .before .of-answered) .ensures .0 ((c .before .before .before .before .before .before .before .before .loop2) .inv .0 ((c .before .before .before .before .before .before .if2) .taken)) ctx false s) ((c .before .before .of-answered) .kept .0))
-
-same-length : tie.Need-same-length Inv-loop μ-loop Inv-loop2 μ-loop2
-same-length c = (c .before .before .loop2) .inv .1
-
-returns : tie.Need-returns Inv-loop μ-loop Inv-loop2 μ-loop2
-returns c = λ table₀ g. within-all (contextOf (read ((c .before .before .before .before .before .before .before .before .before) .args .file .now))) ((c .before .before .before .before .before .before .before .before .before) .args .s) ((c .before .before .loop2) .inv .2 (contextOf (read ((c .before .before .before .before .before .before .before .before .before) .args .file .now))) ((c .before .before .before .before .before .before .before .before .before) .args .s) ((c .before .before .before .before .before .before .before .before .before) .pre .1 .1 .0) table₀ ((c .before .before .before .before .before .loop) .inv .1 table₀ g)) ((c .if2) .left)
+returns : tie.Need-returns Inv-loop μ-loop
+returns c = λ ctx s k table₀ g. within-all ctx s ((c .before .before .loop) .inv .2 ctx s k table₀ g) ((c .if1) .left)
 
 pub of-links-spec : {M : Type 1} → statement M
 of-links-spec =
@@ -90,21 +53,11 @@ of-links-spec =
     (tie.spec
     Inv-loop
     μ-loop
-    Inv-loop2
-    μ-loop2
-    is-passed-requires
     loop-holds
     sub-i
     work-node-requires
-    of-passed-requires
-    is-passed-requires-2
+    of-answered-requires
     loop-less
     loop-again
-    loop2-holds
-    sub-i-2
-    work-node-requires-2
-    of-answered-requires
-    loop2-less
-    loop2-again
     same-length
     returns)

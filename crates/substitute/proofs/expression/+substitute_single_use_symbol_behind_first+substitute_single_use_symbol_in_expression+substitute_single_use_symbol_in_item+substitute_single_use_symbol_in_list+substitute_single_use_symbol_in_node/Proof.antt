@@ -1,34 +1,47 @@
 use borrow.Author.Needs.{needs}
 use native.Mathlib.Omega.{arith}
-use Prim.Native.Nat.{_+_, _*_, _-_, _<_}
-use mathlib.Core.Bool.{not}
+use Prim.Native.Nat.{ℕ, _+_, _*_, _-_, _<_}
+use mathlib.Core.Bool.{Bool, true, false, not}
+use mathlib.Core.List.{List}
 use mathlib.Core.Path.{_≡_, refl, sym, ap, _∙_, subst}
 use lib.ListN.{length}
-use borrow.Author.Tests.{not-true, not-false}
+use lib.Dec.{ltb}
+use borrow.Author.Tests.{not-true, not-false, ltb-true}
 use Rattle.records.specs.File.{read}
-use Rattle.records.proofs.Tests.{both}
+use Rattle.records.specs.Tree.{nodeOf}
+use Rattle.records.proofs.Tests.{both, and-left, and-right}
 use Rattle.walk.specs.Context.{contextOf}
+use Rattle.walk.specs.Shape.{shape}
+use Rattle.walk.specs.Substitute.{next as nextPlan}
+use Rattle.effects.specs.Passes.{Passes}
+use Rattle.plans.specs.Answers.{isPassed, isReplaced}
+use Rattle.plans.specs.Shapes.{planned}
+use Rattle.plans.specs.Search.{SearchableRow, SearchesRow}
 use Rattle.plans.specs.declared.plan.Plan.the-variants.{All}
 use Rattle.substitute.proofs.Row.{row-none, row-nothing, row-replaced, row-either, row-stopped}
 use Rattle.substitute.proofs.Searching.{searchable-stands, searchable-room, row-stands, first-searchable, here-found, tag-here}
 use Rattle.substitute.proofs.Nodes.{is-one-of, one-searched, node-searched, begun-row, others-searchable, row-room, row-looks-most, looks-in-room}
-use Rattle.substitute.specs.Links.{Within}
+use Rattle.substitute.specs.Links.{linkPlan, Within}
+use Rattle.substitute.proofs.Chain.{behind-room, behind-some, behind-row, behind-looks, row-ended, row-one, row-all, behind-searched, within-room, within-first, within-behind, ended}
 use Rattle.substitute.proofs.Going.{Goes, goes-start, goes-on, goes-to}
 use Prim.Native.Nat.{ℕ, _<_}
 use borrow.Fn.Kinds.{In}
 use borrow.Fn.PlainCycle.{Measures, is, falls, and}
+use Rattle.substitute.proofs.expression.substitute_single_use_symbol_behind_first.Reads as substitute-single-use-symbol-behind-first
+use Rattle.substitute.proofs.expression.substitute_single_use_symbol_behind_first.Kinds as substitute-single-use-symbol-behind-first-kinds
+use Rattle.substitute.proofs.expression.+substitute_single_use_symbol_behind_first+substitute_single_use_symbol_in_expression+substitute_single_use_symbol_in_item+substitute_single_use_symbol_in_list+substitute_single_use_symbol_in_node.Lts-substitute_single_use_symbol_behind_first as substitute-single-use-symbol-behind-first-lts
 use Rattle.substitute.proofs.expression.substitute_single_use_symbol_in_expression.Reads as substitute-single-use-symbol-in-expression
 use Rattle.substitute.proofs.expression.substitute_single_use_symbol_in_expression.Kinds as substitute-single-use-symbol-in-expression-kinds
-use Rattle.substitute.proofs.expression.+substitute_single_use_symbol_in_expression+substitute_single_use_symbol_in_item+substitute_single_use_symbol_in_list+substitute_single_use_symbol_in_node.Lts-substitute_single_use_symbol_in_expression as substitute-single-use-symbol-in-expression-lts
+use Rattle.substitute.proofs.expression.+substitute_single_use_symbol_behind_first+substitute_single_use_symbol_in_expression+substitute_single_use_symbol_in_item+substitute_single_use_symbol_in_list+substitute_single_use_symbol_in_node.Lts-substitute_single_use_symbol_in_expression as substitute-single-use-symbol-in-expression-lts
 use Rattle.substitute.proofs.expression.substitute_single_use_symbol_in_item.Reads as substitute-single-use-symbol-in-item
 use Rattle.substitute.proofs.expression.substitute_single_use_symbol_in_item.Kinds as substitute-single-use-symbol-in-item-kinds
-use Rattle.substitute.proofs.expression.+substitute_single_use_symbol_in_expression+substitute_single_use_symbol_in_item+substitute_single_use_symbol_in_list+substitute_single_use_symbol_in_node.Lts-substitute_single_use_symbol_in_item as substitute-single-use-symbol-in-item-lts
+use Rattle.substitute.proofs.expression.+substitute_single_use_symbol_behind_first+substitute_single_use_symbol_in_expression+substitute_single_use_symbol_in_item+substitute_single_use_symbol_in_list+substitute_single_use_symbol_in_node.Lts-substitute_single_use_symbol_in_item as substitute-single-use-symbol-in-item-lts
 use Rattle.substitute.proofs.expression.substitute_single_use_symbol_in_list.Reads as substitute-single-use-symbol-in-list
 use Rattle.substitute.proofs.expression.substitute_single_use_symbol_in_list.Kinds as substitute-single-use-symbol-in-list-kinds
-use Rattle.substitute.proofs.expression.+substitute_single_use_symbol_in_expression+substitute_single_use_symbol_in_item+substitute_single_use_symbol_in_list+substitute_single_use_symbol_in_node.Lts-substitute_single_use_symbol_in_list as substitute-single-use-symbol-in-list-lts
+use Rattle.substitute.proofs.expression.+substitute_single_use_symbol_behind_first+substitute_single_use_symbol_in_expression+substitute_single_use_symbol_in_item+substitute_single_use_symbol_in_list+substitute_single_use_symbol_in_node.Lts-substitute_single_use_symbol_in_list as substitute-single-use-symbol-in-list-lts
 use Rattle.substitute.proofs.expression.substitute_single_use_symbol_in_node.Reads as substitute-single-use-symbol-in-node
 use Rattle.substitute.proofs.expression.substitute_single_use_symbol_in_node.Kinds as substitute-single-use-symbol-in-node-kinds
-use Rattle.substitute.proofs.expression.+substitute_single_use_symbol_in_expression+substitute_single_use_symbol_in_item+substitute_single_use_symbol_in_list+substitute_single_use_symbol_in_node.Lts-substitute_single_use_symbol_in_node as substitute-single-use-symbol-in-node-lts
+use Rattle.substitute.proofs.expression.+substitute_single_use_symbol_behind_first+substitute_single_use_symbol_in_expression+substitute_single_use_symbol_in_item+substitute_single_use_symbol_in_list+substitute_single_use_symbol_in_node.Lts-substitute_single_use_symbol_in_node as substitute-single-use-symbol-in-node-lts
 use Rattle.effects.proofs.pass_row.Reads as pass-row-reads
 use Rattle.plans.proofs.begin.begin.Reads as begin-reads
 use Rattle.plans.proofs.plan.is_branches.Reads as is-branches-reads
@@ -36,26 +49,32 @@ use Rattle.plans.proofs.plan.is_nothing.Reads as is-nothing-reads
 use Rattle.plans.proofs.plan.next_plan.Reads as next-plan-reads
 use Rattle.plans.proofs.walked.is_passed.Reads as is-passed-reads
 use Rattle.plans.proofs.walked.is_replaced.Reads as is-replaced-reads
+use Rattle.records.proofs.number.size.Reads as size-reads
+use Rattle.substitute.proofs.expression.is_one.Reads as is-one-reads
+use Rattle.substitute.proofs.leaf.is_leaf.Reads as is-leaf-reads
+use Rattle.substitute.proofs.leaf.of_leaf.Reads as of-leaf-reads
+use Rattle.substitute.proofs.links.behind_links.Reads as behind-links-reads
+use Rattle.substitute.proofs.links.link_plan.Reads as link-plan-reads
+use Rattle.substitute.proofs.links.of_links.Reads as of-links-reads
+use Rattle.substitute.proofs.node.is_specific_id.Reads as is-specific-id-reads
+use Rattle.substitute.proofs.node.of_answered.Reads as of-answered-reads
+use Rattle.substitute.proofs.node.of_passed.Reads as of-passed-reads
 use Rattle.substitute.proofs.outcome.either.Reads as either-reads
 use Rattle.substitute.proofs.outcome.found.Reads as found-reads
 use Rattle.substitute.proofs.outcome.gathered.Reads as gathered-reads
 use Rattle.substitute.proofs.outcome.passed.Reads as passed-reads
 use Rattle.substitute.proofs.outcome.stopped.Reads as stopped-reads
-use Rattle.substitute.proofs.expression.is_one.Reads as is-one-reads
-use Rattle.substitute.proofs.leaf.is_leaf.Reads as is-leaf-reads
-use Rattle.substitute.proofs.leaf.of_leaf.Reads as of-leaf-reads
-use Rattle.substitute.proofs.links.behind_links.Reads as behind-links-reads
-use Rattle.substitute.proofs.links.of_links.Reads as of-links-reads
-use Rattle.substitute.proofs.node.is_specific_id.Reads as is-specific-id-reads
-use Rattle.substitute.proofs.node.of_answered.Reads as of-answered-reads
-use Rattle.substitute.proofs.node.of_passed.Reads as of-passed-reads
 use Rattle.table.proofs.work_node.Reads as work-node-reads
-use Rattle.substitute.proofs.expression.+substitute_single_use_symbol_in_expression+substitute_single_use_symbol_in_item+substitute_single_use_symbol_in_list+substitute_single_use_symbol_in_node.{
+use Rattle.substitute.proofs.expression.+substitute_single_use_symbol_behind_first+substitute_single_use_symbol_in_expression+substitute_single_use_symbol_in_item+substitute_single_use_symbol_in_list+substitute_single_use_symbol_in_node.{
   statement,
 }
-use Rattle.substitute.proofs.expression.+substitute_single_use_symbol_in_expression+substitute_single_use_symbol_in_item+substitute_single_use_symbol_in_list+substitute_single_use_symbol_in_node.Tie.{
+use Rattle.substitute.proofs.expression.+substitute_single_use_symbol_behind_first+substitute_single_use_symbol_in_expression+substitute_single_use_symbol_in_item+substitute_single_use_symbol_in_list+substitute_single_use_symbol_in_node.Tie.{
   close,
 }
+
+abbrev μ-substitute-single-use-symbol-behind-first :
+    Measures 2 substitute-single-use-symbol-behind-first-kinds.ps ℕ
+μ-substitute-single-use-symbol-behind-first κs a = length (a .1 .1 .0 .now) - 16 * a .1 .1 .1 .0 .0 + 1
 
 abbrev μ-substitute-single-use-symbol-in-expression :
     Measures 2 substitute-single-use-symbol-in-expression-kinds.ps ℕ
@@ -72,6 +91,33 @@ abbrev μ-substitute-single-use-symbol-in-list :
 abbrev μ-substitute-single-use-symbol-in-node :
     Measures 2 substitute-single-use-symbol-in-node-kinds.ps ℕ
 μ-substitute-single-use-symbol-in-node κs a = length (a .1 .1 .0 .now) - 16 * a .1 .1 .1 .0 .0 + 1
+
+abbrev substitute-single-use-symbol-behind-first-at :
+    ℕ → In 2 substitute-single-use-symbol-behind-first-kinds.ps
+substitute-single-use-symbol-behind-first-at t =
+    and
+    2
+    substitute-single-use-symbol-behind-first-kinds.ps
+    (is
+    2
+    substitute-single-use-symbol-behind-first-kinds.ps
+    μ-substitute-single-use-symbol-behind-first
+    t)
+    substitute-single-use-symbol-behind-first.Pre
+
+abbrev substitute-single-use-symbol-behind-first-below :
+    ℕ → In 2 substitute-single-use-symbol-behind-first-kinds.ps
+substitute-single-use-symbol-behind-first-below t =
+    and
+    2
+    substitute-single-use-symbol-behind-first-kinds.ps
+    (falls
+    2
+    substitute-single-use-symbol-behind-first-kinds.ps
+    _<_
+    μ-substitute-single-use-symbol-behind-first
+    t)
+    substitute-single-use-symbol-behind-first.Pre
 
 abbrev substitute-single-use-symbol-in-expression-at :
     ℕ → In 2 substitute-single-use-symbol-in-expression-kinds.ps
@@ -169,36 +215,250 @@ substitute-single-use-symbol-in-node-below t =
     t)
     substitute-single-use-symbol-in-node.Pre
 
+substitute-single-use-symbol-behind-first-work-node-requires :
+    (t : ℕ) → substitute-single-use-symbol-behind-first-lts.Need-work-node-requires (work-node-reads.Asked, work-node-reads.Learnt, size-reads.Asked, size-reads.Learnt, is-passed-reads.Asked, is-passed-reads.Learnt, pass-row-reads.Asked, pass-row-reads.Learnt, stopped-reads.Asked, stopped-reads.Learnt, of-answered-reads.Asked, of-answered-reads.Learnt, of-passed-reads.Asked, of-passed-reads.Learnt, link-plan-reads.Asked, link-plan-reads.Learnt, next-plan-reads.Asked, next-plan-reads.Learnt, substitute-single-use-symbol-in-list-below t, substitute-single-use-symbol-in-list.Post, gathered-reads.Asked, gathered-reads.Learnt)
+    (substitute-single-use-symbol-behind-first-at t)
+    substitute-single-use-symbol-behind-first.Post
+substitute-single-use-symbol-behind-first-work-node-requires t c κs = behind-room (contextOf (read ((c .before .before .before) .args .file .now))) ((c .before .before .before) .args .s) ((c .before .before .before) .pre .1 .1 .1 .0) ((c .before .before .before) .pre .1 .1 .1 .1 .1)
+
+substitute-single-use-symbol-behind-first-size-requires :
+    (t : ℕ) → substitute-single-use-symbol-behind-first-lts.Need-size-requires (work-node-reads.Asked, work-node-reads.Learnt, size-reads.Asked, size-reads.Learnt, is-passed-reads.Asked, is-passed-reads.Learnt, pass-row-reads.Asked, pass-row-reads.Learnt, stopped-reads.Asked, stopped-reads.Learnt, of-answered-reads.Asked, of-answered-reads.Learnt, of-passed-reads.Asked, of-passed-reads.Learnt, link-plan-reads.Asked, link-plan-reads.Learnt, next-plan-reads.Asked, next-plan-reads.Learnt, substitute-single-use-symbol-in-list-below t, substitute-single-use-symbol-in-list.Post, gathered-reads.Asked, gathered-reads.Learnt)
+    (substitute-single-use-symbol-behind-first-at t)
+    substitute-single-use-symbol-behind-first.Post
+substitute-single-use-symbol-behind-first-size-requires t c κs = tt
+
+substitute-single-use-symbol-behind-first-sub-left :
+    (t : ℕ) → substitute-single-use-symbol-behind-first-lts.Need-sub-left (work-node-reads.Asked, work-node-reads.Learnt, size-reads.Asked, size-reads.Learnt, is-passed-reads.Asked, is-passed-reads.Learnt, pass-row-reads.Asked, pass-row-reads.Learnt, stopped-reads.Asked, stopped-reads.Learnt, of-answered-reads.Asked, of-answered-reads.Learnt, of-passed-reads.Asked, of-passed-reads.Learnt, link-plan-reads.Asked, link-plan-reads.Learnt, next-plan-reads.Asked, next-plan-reads.Learnt, substitute-single-use-symbol-in-list-below t, substitute-single-use-symbol-in-list.Post, gathered-reads.Asked, gathered-reads.Learnt)
+    (substitute-single-use-symbol-behind-first-at t)
+    substitute-single-use-symbol-behind-first.Post
+substitute-single-use-symbol-behind-first-sub-left t c = omega (arith, behind-some (contextOf (read ((c .before .before .before .before .before) .args .file .now))) ((c .before .before .before .before .before) .args .s) ((c .before .before .before .before .before) .pre .1 .1 .1 .0) ((c .before .before .before .before .before) .pre .1 .1 .1 .1 .1) ((c .before .work-node) .result) ((c .before .work-node) .ensures), (c .size) .ensures .0)
+
+substitute-single-use-symbol-behind-first-is-passed-requires :
+    (t : ℕ) → substitute-single-use-symbol-behind-first-lts.Need-is-passed-requires (work-node-reads.Asked, work-node-reads.Learnt, size-reads.Asked, size-reads.Learnt, is-passed-reads.Asked, is-passed-reads.Learnt, pass-row-reads.Asked, pass-row-reads.Learnt, stopped-reads.Asked, stopped-reads.Learnt, of-answered-reads.Asked, of-answered-reads.Learnt, of-passed-reads.Asked, of-passed-reads.Learnt, link-plan-reads.Asked, link-plan-reads.Learnt, next-plan-reads.Asked, next-plan-reads.Learnt, substitute-single-use-symbol-in-list-below t, substitute-single-use-symbol-in-list.Post, gathered-reads.Asked, gathered-reads.Learnt)
+    (substitute-single-use-symbol-behind-first-at t)
+    substitute-single-use-symbol-behind-first.Post
+substitute-single-use-symbol-behind-first-is-passed-requires t c κs = tt
+
+substitute-single-use-symbol-behind-first-pass-row-requires :
+    (t : ℕ) → substitute-single-use-symbol-behind-first-lts.Need-pass-row-requires (work-node-reads.Asked, work-node-reads.Learnt, size-reads.Asked, size-reads.Learnt, is-passed-reads.Asked, is-passed-reads.Learnt, pass-row-reads.Asked, pass-row-reads.Learnt, stopped-reads.Asked, stopped-reads.Learnt, of-answered-reads.Asked, of-answered-reads.Learnt, of-passed-reads.Asked, of-passed-reads.Learnt, link-plan-reads.Asked, link-plan-reads.Learnt, next-plan-reads.Asked, next-plan-reads.Learnt, substitute-single-use-symbol-in-list-below t, substitute-single-use-symbol-in-list.Post, gathered-reads.Asked, gathered-reads.Learnt)
+    (substitute-single-use-symbol-behind-first-at t)
+    substitute-single-use-symbol-behind-first.Post
+substitute-single-use-symbol-behind-first-pass-row-requires t c κs = row-stands (subst (λ k. SearchableRow ((c .before .before .before .before .before .before .before .before .before) .args .nodes .now) ((c .before .before .before .before .before .before .before .before .before) .args .first .next .0) (k - 1)) (sym ((c .before .before .before .before .size) .ensures .0)) (behind-row (contextOf (read ((c .before .before .before .before .before .before .before .before .before) .args .file .now))) ((c .before .before .before .before .before .before .before .before .before) .args .s) ((c .before .before .before .before .before .before .before .before .before) .pre .1 .1 .1 .0) ((c .before .before .before .before .before .before .before .before .before) .pre .1 .1 .1 .1 .1) ((c .before .before .before .before .before .work-node) .result) ((c .before .before .before .before .before .work-node) .ensures) .0))
+
+substitute-single-use-symbol-behind-first-stopped-requires :
+    (t : ℕ) → substitute-single-use-symbol-behind-first-lts.Need-stopped-requires (work-node-reads.Asked, work-node-reads.Learnt, size-reads.Asked, size-reads.Learnt, is-passed-reads.Asked, is-passed-reads.Learnt, pass-row-reads.Asked, pass-row-reads.Learnt, stopped-reads.Asked, stopped-reads.Learnt, of-answered-reads.Asked, of-answered-reads.Learnt, of-passed-reads.Asked, of-passed-reads.Learnt, link-plan-reads.Asked, link-plan-reads.Learnt, next-plan-reads.Asked, next-plan-reads.Learnt, substitute-single-use-symbol-in-list-below t, substitute-single-use-symbol-in-list.Post, gathered-reads.Asked, gathered-reads.Learnt)
+    (substitute-single-use-symbol-behind-first-at t)
+    substitute-single-use-symbol-behind-first.Post
+substitute-single-use-symbol-behind-first-stopped-requires t c κs = tt
+
+substitute-single-use-symbol-behind-first-of-answered-requires :
+    (t : ℕ) → substitute-single-use-symbol-behind-first-lts.Need-of-answered-requires (work-node-reads.Asked, work-node-reads.Learnt, size-reads.Asked, size-reads.Learnt, is-passed-reads.Asked, is-passed-reads.Learnt, pass-row-reads.Asked, pass-row-reads.Learnt, stopped-reads.Asked, stopped-reads.Learnt, of-answered-reads.Asked, of-answered-reads.Learnt, of-passed-reads.Asked, of-passed-reads.Learnt, link-plan-reads.Asked, link-plan-reads.Learnt, next-plan-reads.Asked, next-plan-reads.Learnt, substitute-single-use-symbol-in-list-below t, substitute-single-use-symbol-in-list.Post, gathered-reads.Asked, gathered-reads.Learnt)
+    (substitute-single-use-symbol-behind-first-at t)
+    substitute-single-use-symbol-behind-first.Post
+substitute-single-use-symbol-behind-first-of-answered-requires t c κs = (behind-room (contextOf (read ((c .before .before .before .before .before .before .before .before .before .before .before .before .before) .args .file .now))) ((c .before .before .before .before .before .before .before .before .before .before .before .before .before) .args .s) ((c .before .before .before .before .before .before .before .before .before .before .before .before .before) .pre .1 .1 .1 .0) ((c .before .before .before .before .before .before .before .before .before .before .before .before .before) .pre .1 .1 .1 .1 .1), let e : (c .stopped) .result .looks ≡ (c .before .before .before .before .before .before .before .before .before .before .before .before .before) .args .first .looks = ap (λ w. w .looks) ((c .stopped) .ensures) in omega (arith, e, behind-looks (contextOf (read ((c .before .before .before .before .before .before .before .before .before .before .before .before .before) .args .file .now))) ((c .before .before .before .before .before .before .before .before .before .before .before .before .before) .args .s) ((c .before .before .before .before .before .before .before .before .before .before .before .before .before) .pre .1 .1 .1 .0) ((c .before .before .before .before .before .before .before .before .before .before .before .before .before) .pre .1 .1 .1 .1 .1) ((c .before .before .before .before .before .before .before .before .before .work-node) .result) ((c .before .before .before .before .before .before .before .before .before .work-node) .ensures), (c .before .before .before .before .before .before .before .before .before .before .before .before .before) .good .1 .1 .0))
+
+substitute-single-use-symbol-behind-first-same-length :
+    (t : ℕ) → substitute-single-use-symbol-behind-first-lts.Need-same-length (work-node-reads.Asked, work-node-reads.Learnt, size-reads.Asked, size-reads.Learnt, is-passed-reads.Asked, is-passed-reads.Learnt, pass-row-reads.Asked, pass-row-reads.Learnt, stopped-reads.Asked, stopped-reads.Learnt, of-answered-reads.Asked, of-answered-reads.Learnt, of-passed-reads.Asked, of-passed-reads.Learnt, link-plan-reads.Asked, link-plan-reads.Learnt, next-plan-reads.Asked, next-plan-reads.Learnt, substitute-single-use-symbol-in-list-below t, substitute-single-use-symbol-in-list.Post, gathered-reads.Asked, gathered-reads.Learnt)
+    (substitute-single-use-symbol-behind-first-at t)
+    substitute-single-use-symbol-behind-first.Post
+substitute-single-use-symbol-behind-first-same-length t c = search needs
+
+substitute-single-use-symbol-behind-first-returns :
+    (t : ℕ) → substitute-single-use-symbol-behind-first-lts.Need-returns (work-node-reads.Asked, work-node-reads.Learnt, size-reads.Asked, size-reads.Learnt, is-passed-reads.Asked, is-passed-reads.Learnt, pass-row-reads.Asked, pass-row-reads.Learnt, stopped-reads.Asked, stopped-reads.Learnt, of-answered-reads.Asked, of-answered-reads.Learnt, of-passed-reads.Asked, of-passed-reads.Learnt, link-plan-reads.Asked, link-plan-reads.Learnt, next-plan-reads.Asked, next-plan-reads.Learnt, substitute-single-use-symbol-in-list-below t, substitute-single-use-symbol-in-list.Post, gathered-reads.Asked, gathered-reads.Learnt)
+    (substitute-single-use-symbol-behind-first-at t)
+    substitute-single-use-symbol-behind-first.Post
+substitute-single-use-symbol-behind-first-returns t c = λ table₀ g. behind-searched (contextOf (read ((c .before .before .before .before .before .before .before .before .before .before .before .before .before .before .before .before) .args .file .now))) ((c .before .before .before .before .before .before .before .before .before .before .before .before .before .before .before .before) .args .s) ((c .before .before .before .before .before .before .before .before .before .before .before .before .before .before .before .before) .pre .1 .1 .1 .0) g ((c .before .before .before .before .before .before .before .before .before .before .before .before .work-node) .result) ((c .before .before .before .before .before .before .before .before .before .before .before .before .work-node) .ensures) (row-ended (contextOf (read ((c .before .before .before .before .before .before .before .before .before .before .before .before .before .before .before .before) .args .file .now))) ((c .before .before .before .before .before .before .before .before .before .before .before .before .before .before .before .before) .args .s) ((c .before .before .before .before .before .before .before .before .before .before .before .before .before .before .before .before) .pre .1 .1 .1 .0) g ((c .before .before .before .before .before .before .before .before .before .before .before .before .work-node) .result) ((c .before .before .before .before .before .before .before .before .before .before .before .before .work-node) .ensures) (sym ((c .before .before .before .before .before .before .before .before .before .is-passed) .ensures) ∙ not-true ((c .before .before .before .before .before .before .before .before .before .is-passed) .result) ((c .before .before .before .before .before .before .before .before .if1) .taken)) (subst (λ k. Passes ((c .before .before .before .before .before .before .before .before .before .before .before .before .before .before .before .before) .args .nodes .now) ((c .before .before .before .before .before .before .before .before .before .before .before .before .before .before .before .before) .args .first .next .0) (k - 1) ((c .before .before .before .before .before .before .pass-row) .result .next .0) ((c .before .before .before .before .before .before .pass-row) .result .effect)) ((c .before .before .before .before .before .before .before .before .before .before .before .size) .ensures .0) ((c .before .before .before .before .before .before .pass-row) .ensures)) (ap (λ w. w .answer) ((c .before .before .before .stopped) .ensures)) (ap (λ w. w .next .0) ((c .before .before .before .stopped) .ensures)) (ap (λ w. w .looks) ((c .before .before .before .stopped) .ensures))) ((c .before .before .of-answered) .ensures .0 (ap (λ w. isPassed (w .answer)) ((c .before .before .before .stopped) .ensures)) (contextOf (read ((c .before .before .before .before .before .before .before .before .before .before .before .before .before .before .before .before) .args .file .now))) false ((c .before .before .before .before .before .before .before .before .before .before .before .before .before .before .before .before) .args .s))
+
+substitute-single-use-symbol-behind-first-of-passed-requires :
+    (t : ℕ) → substitute-single-use-symbol-behind-first-lts.Need-of-passed-requires (work-node-reads.Asked, work-node-reads.Learnt, size-reads.Asked, size-reads.Learnt, is-passed-reads.Asked, is-passed-reads.Learnt, pass-row-reads.Asked, pass-row-reads.Learnt, stopped-reads.Asked, stopped-reads.Learnt, of-answered-reads.Asked, of-answered-reads.Learnt, of-passed-reads.Asked, of-passed-reads.Learnt, link-plan-reads.Asked, link-plan-reads.Learnt, next-plan-reads.Asked, next-plan-reads.Learnt, substitute-single-use-symbol-in-list-below t, substitute-single-use-symbol-in-list.Post, gathered-reads.Asked, gathered-reads.Learnt)
+    (substitute-single-use-symbol-behind-first-at t)
+    substitute-single-use-symbol-behind-first.Post
+substitute-single-use-symbol-behind-first-of-passed-requires t c κs = ((c .before .before .before .before .before .before .before .before .before) .pre .1 .0, ((c .before .before .before .before .before .before .before .before .before) .pre .1 .1 .0, omega (arith, behind-looks (contextOf (read ((c .before .before .before .before .before .before .before .before .before) .args .file .now))) ((c .before .before .before .before .before .before .before .before .before) .args .s) ((c .before .before .before .before .before .before .before .before .before) .pre .1 .1 .1 .0) ((c .before .before .before .before .before .before .before .before .before) .pre .1 .1 .1 .1 .1) ((c .before .before .before .before .before .work-node) .result) ((c .before .before .before .before .before .work-node) .ensures), (c .before .before .before .before .before .before .before .before .before) .good .1 .1 .0)))
+
+substitute-single-use-symbol-behind-first-same-length-2 :
+    (t : ℕ) → substitute-single-use-symbol-behind-first-lts.Need-same-length-2 (work-node-reads.Asked, work-node-reads.Learnt, size-reads.Asked, size-reads.Learnt, is-passed-reads.Asked, is-passed-reads.Learnt, pass-row-reads.Asked, pass-row-reads.Learnt, stopped-reads.Asked, stopped-reads.Learnt, of-answered-reads.Asked, of-answered-reads.Learnt, of-passed-reads.Asked, of-passed-reads.Learnt, link-plan-reads.Asked, link-plan-reads.Learnt, next-plan-reads.Asked, next-plan-reads.Learnt, substitute-single-use-symbol-in-list-below t, substitute-single-use-symbol-in-list.Post, gathered-reads.Asked, gathered-reads.Learnt)
+    (substitute-single-use-symbol-behind-first-at t)
+    substitute-single-use-symbol-behind-first.Post
+substitute-single-use-symbol-behind-first-same-length-2 t c = search needs
+
+substitute-single-use-symbol-behind-first-returns-2 :
+    (t : ℕ) → substitute-single-use-symbol-behind-first-lts.Need-returns-2 (work-node-reads.Asked, work-node-reads.Learnt, size-reads.Asked, size-reads.Learnt, is-passed-reads.Asked, is-passed-reads.Learnt, pass-row-reads.Asked, pass-row-reads.Learnt, stopped-reads.Asked, stopped-reads.Learnt, of-answered-reads.Asked, of-answered-reads.Learnt, of-passed-reads.Asked, of-passed-reads.Learnt, link-plan-reads.Asked, link-plan-reads.Learnt, next-plan-reads.Asked, next-plan-reads.Learnt, substitute-single-use-symbol-in-list-below t, substitute-single-use-symbol-in-list.Post, gathered-reads.Asked, gathered-reads.Learnt)
+    (substitute-single-use-symbol-behind-first-at t)
+    substitute-single-use-symbol-behind-first.Post
+substitute-single-use-symbol-behind-first-returns-2 t c = λ table₀ g. behind-searched (contextOf (read ((c .before .before .before .before .before .before .before .before .before .before) .args .file .now))) ((c .before .before .before .before .before .before .before .before .before .before) .args .s) ((c .before .before .before .before .before .before .before .before .before .before) .pre .1 .1 .1 .0) g ((c .before .before .before .before .before .before .work-node) .result) ((c .before .before .before .before .before .before .work-node) .ensures) (row-one (contextOf (read ((c .before .before .before .before .before .before .before .before .before .before) .args .file .now))) ((c .before .before .before .before .before .before .before .before .before .before) .args .s) ((c .before .before .before .before .before .before .before .before .before .before) .pre .1 .1 .1 .0) g ((c .before .before .before .before .before .before .work-node) .result) ((c .before .before .before .before .before .before .work-node) .ensures) (omega (arith, (c .before .if2) .taken, (c .before .before .before .before .before .size) .ensures .0))) ((c .of-passed) .ensures (sym ((c .before .before .before .is-passed) .ensures) ∙ not-false ((c .before .before .before .is-passed) .result) ((c .before .before .if1) .left)) ((c .before .before .before .before .before .before .before .before .before .before) .args .nodes .now) ((c .before .before .before .before .before .before .before .before .before .before) .args .at .0))
+
+substitute-single-use-symbol-behind-first-link-plan-requires :
+    (t : ℕ) → substitute-single-use-symbol-behind-first-lts.Need-link-plan-requires (work-node-reads.Asked, work-node-reads.Learnt, size-reads.Asked, size-reads.Learnt, is-passed-reads.Asked, is-passed-reads.Learnt, pass-row-reads.Asked, pass-row-reads.Learnt, stopped-reads.Asked, stopped-reads.Learnt, of-answered-reads.Asked, of-answered-reads.Learnt, of-passed-reads.Asked, of-passed-reads.Learnt, link-plan-reads.Asked, link-plan-reads.Learnt, next-plan-reads.Asked, next-plan-reads.Learnt, substitute-single-use-symbol-in-list-below t, substitute-single-use-symbol-in-list.Post, gathered-reads.Asked, gathered-reads.Learnt)
+    (substitute-single-use-symbol-behind-first-at t)
+    substitute-single-use-symbol-behind-first.Post
+substitute-single-use-symbol-behind-first-link-plan-requires t c κs = tt
+
+substitute-single-use-symbol-behind-first-next-plan-requires :
+    (t : ℕ) → substitute-single-use-symbol-behind-first-lts.Need-next-plan-requires (work-node-reads.Asked, work-node-reads.Learnt, size-reads.Asked, size-reads.Learnt, is-passed-reads.Asked, is-passed-reads.Learnt, pass-row-reads.Asked, pass-row-reads.Learnt, stopped-reads.Asked, stopped-reads.Learnt, of-answered-reads.Asked, of-answered-reads.Learnt, of-passed-reads.Asked, of-passed-reads.Learnt, link-plan-reads.Asked, link-plan-reads.Learnt, next-plan-reads.Asked, next-plan-reads.Learnt, substitute-single-use-symbol-in-list-below t, substitute-single-use-symbol-in-list.Post, gathered-reads.Asked, gathered-reads.Learnt)
+    (substitute-single-use-symbol-behind-first-at t)
+    substitute-single-use-symbol-behind-first.Post
+substitute-single-use-symbol-behind-first-next-plan-requires t c κs = tt
+
+substitute-single-use-symbol-behind-first-substitute-single-use-symbol-in-list-requires :
+    (t : ℕ) →
+    substitute-single-use-symbol-behind-first-lts.Need-substitute-single-use-symbol-in-list-requires (work-node-reads.Asked, work-node-reads.Learnt, size-reads.Asked, size-reads.Learnt, is-passed-reads.Asked, is-passed-reads.Learnt, pass-row-reads.Asked, pass-row-reads.Learnt, stopped-reads.Asked, stopped-reads.Learnt, of-answered-reads.Asked, of-answered-reads.Learnt, of-passed-reads.Asked, of-passed-reads.Learnt, link-plan-reads.Asked, link-plan-reads.Learnt, next-plan-reads.Asked, next-plan-reads.Learnt, substitute-single-use-symbol-in-list-below t, substitute-single-use-symbol-in-list.Post, gathered-reads.Asked, gathered-reads.Learnt)
+    (substitute-single-use-symbol-behind-first-at t)
+    substitute-single-use-symbol-behind-first.Post
+substitute-single-use-symbol-behind-first-substitute-single-use-symbol-in-list-requires t c κs = (omega (arith, (c .before .before .before .before .before .before .before .before .before .before .before .before) .pre .0, behind-row (contextOf (read ((c .before .before .before .before .before .before .before .before .before .before .before .before) .args .file .now))) ((c .before .before .before .before .before .before .before .before .before .before .before .before) .args .s) ((c .before .before .before .before .before .before .before .before .before .before .before .before) .pre .1 .1 .1 .0) ((c .before .before .before .before .before .before .before .before .before .before .before .before) .pre .1 .1 .1 .1 .1) ((c .before .before .before .before .before .before .before .before .work-node) .result) ((c .before .before .before .before .before .before .before .before .work-node) .ensures) .1, behind-room (contextOf (read ((c .before .before .before .before .before .before .before .before .before .before .before .before) .args .file .now))) ((c .before .before .before .before .before .before .before .before .before .before .before .before) .args .s) ((c .before .before .before .before .before .before .before .before .before .before .before .before) .pre .1 .1 .1 .0) ((c .before .before .before .before .before .before .before .before .before .before .before .before) .pre .1 .1 .1 .1 .1)), ((c .before .before .before .before .before .before .before .before .before .before .before .before) .pre .1 .0, ((c .before .before .before .before .before .before .before .before .before .before .before .before) .pre .1 .1 .0, ((subst (λ k. SearchableRow ((c .before .before .before .before .before .before .before .before .before .before .before .before) .args .nodes .now) ((c .before .before .before .before .before .before .before .before .before .before .before .before) .args .first .next .0) (k - 1)) (sym ((c .before .before .before .before .before .before .before .size) .ensures .0)) (behind-row (contextOf (read ((c .before .before .before .before .before .before .before .before .before .before .before .before) .args .file .now))) ((c .before .before .before .before .before .before .before .before .before .before .before .before) .args .s) ((c .before .before .before .before .before .before .before .before .before .before .before .before) .pre .1 .1 .1 .0) ((c .before .before .before .before .before .before .before .before .before .before .before .before) .pre .1 .1 .1 .1 .1) ((c .before .before .before .before .before .before .before .before .work-node) .result) ((c .before .before .before .before .before .before .before .before .work-node) .ensures) .0)), ((c .before .before .before .before .before .before .before .before .before .before .before .before) .pre .1 .1 .1 .0)))))
+
+substitute-single-use-symbol-behind-first-gathered-requires :
+    (t : ℕ) → substitute-single-use-symbol-behind-first-lts.Need-gathered-requires (work-node-reads.Asked, work-node-reads.Learnt, size-reads.Asked, size-reads.Learnt, is-passed-reads.Asked, is-passed-reads.Learnt, pass-row-reads.Asked, pass-row-reads.Learnt, stopped-reads.Asked, stopped-reads.Learnt, of-answered-reads.Asked, of-answered-reads.Learnt, of-passed-reads.Asked, of-passed-reads.Learnt, link-plan-reads.Asked, link-plan-reads.Learnt, next-plan-reads.Asked, next-plan-reads.Learnt, substitute-single-use-symbol-in-list-below t, substitute-single-use-symbol-in-list.Post, gathered-reads.Asked, gathered-reads.Learnt)
+    (substitute-single-use-symbol-behind-first-at t)
+    substitute-single-use-symbol-behind-first.Post
+substitute-single-use-symbol-behind-first-gathered-requires t c κs = omega (arith, behind-row (contextOf (read ((c .before .before .before .before .before .before .before .before .before .before .before .before .before .before .before) .args .file .now))) ((c .before .before .before .before .before .before .before .before .before .before .before .before .before .before .before) .args .s) ((c .before .before .before .before .before .before .before .before .before .before .before .before .before .before .before) .pre .1 .1 .1 .0) ((c .before .before .before .before .before .before .before .before .before .before .before .before .before .before .before) .pre .1 .1 .1 .1 .1) ((c .before .before .before .before .before .before .before .before .before .before .before .work-node) .result) ((c .before .before .before .before .before .before .before .before .before .before .before .work-node) .ensures) .2, row-looks-most (contextOf (read ((c .before .before .before .before .before .before .before .before .before .before .before .before .before .before .before) .args .file .now))) ((c .before .before .before .before .before .before .before .before .before .before .before .before .before .before .before) .args .s) ((c .before .before .before .before .next-plan) .result) ((c .before .before .before .before .before .before .before .before .before .before .before .before .before .before .before) .pre .1 .1 .1 .0) (subst (λ k. SearchableRow ((c .before .before .before .before .before .before .before .before .before .before .before .before .before .before .before) .args .nodes .now) ((c .before .before .before .before .before .before .before .before .before .before .before .before .before .before .before) .args .first .next .0) (k - 1)) (sym ((c .before .before .before .before .before .before .before .before .before .before .size) .ensures .0)) (behind-row (contextOf (read ((c .before .before .before .before .before .before .before .before .before .before .before .before .before .before .before) .args .file .now))) ((c .before .before .before .before .before .before .before .before .before .before .before .before .before .before .before) .args .s) ((c .before .before .before .before .before .before .before .before .before .before .before .before .before .before .before) .pre .1 .1 .1 .0) ((c .before .before .before .before .before .before .before .before .before .before .before .before .before .before .before) .pre .1 .1 .1 .1 .1) ((c .before .before .before .before .before .before .before .before .before .before .before .work-node) .result) ((c .before .before .before .before .before .before .before .before .before .before .before .work-node) .ensures) .0)) ((c .before .before .substitute-single-use-symbol-in-list) .ensures), (c .before .before .before .before .before .before .before .before .before .before .before .before .before .before .before) .good .1 .1 .0)
+
+substitute-single-use-symbol-behind-first-is-passed-requires-2 :
+    (t : ℕ) → substitute-single-use-symbol-behind-first-lts.Need-is-passed-requires-2 (work-node-reads.Asked, work-node-reads.Learnt, size-reads.Asked, size-reads.Learnt, is-passed-reads.Asked, is-passed-reads.Learnt, pass-row-reads.Asked, pass-row-reads.Learnt, stopped-reads.Asked, stopped-reads.Learnt, of-answered-reads.Asked, of-answered-reads.Learnt, of-passed-reads.Asked, of-passed-reads.Learnt, link-plan-reads.Asked, link-plan-reads.Learnt, next-plan-reads.Asked, next-plan-reads.Learnt, substitute-single-use-symbol-in-list-below t, substitute-single-use-symbol-in-list.Post, gathered-reads.Asked, gathered-reads.Learnt)
+    (substitute-single-use-symbol-behind-first-at t)
+    substitute-single-use-symbol-behind-first.Post
+substitute-single-use-symbol-behind-first-is-passed-requires-2 t c κs = tt
+
+substitute-single-use-symbol-behind-first-of-passed-requires-2 :
+    (t : ℕ) → substitute-single-use-symbol-behind-first-lts.Need-of-passed-requires-2 (work-node-reads.Asked, work-node-reads.Learnt, size-reads.Asked, size-reads.Learnt, is-passed-reads.Asked, is-passed-reads.Learnt, pass-row-reads.Asked, pass-row-reads.Learnt, stopped-reads.Asked, stopped-reads.Learnt, of-answered-reads.Asked, of-answered-reads.Learnt, of-passed-reads.Asked, of-passed-reads.Learnt, link-plan-reads.Asked, link-plan-reads.Learnt, next-plan-reads.Asked, next-plan-reads.Learnt, substitute-single-use-symbol-in-list-below t, substitute-single-use-symbol-in-list.Post, gathered-reads.Asked, gathered-reads.Learnt)
+    (substitute-single-use-symbol-behind-first-at t)
+    substitute-single-use-symbol-behind-first.Post
+substitute-single-use-symbol-behind-first-of-passed-requires-2 t c κs = ((c .before .before .before .before .before .before .before .before .before .before .before .before .before .before .before .before .before .before) .pre .1 .0, ((c .before .before .before .before .before .before .before .before .before .before .before .before .before .before .before .before .before .before) .pre .1 .1 .0, (let e : (c .before .before .gathered) .result .looks ≡ (c .before .before .before .before .before .before .before .before .before .before .before .before .before .before .before .before .before .before) .args .first .looks + (c .before .before .before .before .before .substitute-single-use-symbol-in-list) .result .looks = ap (λ w. w .looks) ((c .before .before .gathered) .ensures) in omega (arith, e, behind-row (contextOf (read ((c .before .before .before .before .before .before .before .before .before .before .before .before .before .before .before .before .before .before) .args .file .now))) ((c .before .before .before .before .before .before .before .before .before .before .before .before .before .before .before .before .before .before) .args .s) ((c .before .before .before .before .before .before .before .before .before .before .before .before .before .before .before .before .before .before) .pre .1 .1 .1 .0) ((c .before .before .before .before .before .before .before .before .before .before .before .before .before .before .before .before .before .before) .pre .1 .1 .1 .1 .1) ((c .before .before .before .before .before .before .before .before .before .before .before .before .before .before .work-node) .result) ((c .before .before .before .before .before .before .before .before .before .before .before .before .before .before .work-node) .ensures) .2, row-looks-most (contextOf (read ((c .before .before .before .before .before .before .before .before .before .before .before .before .before .before .before .before .before .before) .args .file .now))) ((c .before .before .before .before .before .before .before .before .before .before .before .before .before .before .before .before .before .before) .args .s) ((c .before .before .before .before .before .before .before .next-plan) .result) ((c .before .before .before .before .before .before .before .before .before .before .before .before .before .before .before .before .before .before) .pre .1 .1 .1 .0) (subst (λ k. SearchableRow ((c .before .before .before .before .before .before .before .before .before .before .before .before .before .before .before .before .before .before) .args .nodes .now) ((c .before .before .before .before .before .before .before .before .before .before .before .before .before .before .before .before .before .before) .args .first .next .0) (k - 1)) (sym ((c .before .before .before .before .before .before .before .before .before .before .before .before .before .size) .ensures .0)) (behind-row (contextOf (read ((c .before .before .before .before .before .before .before .before .before .before .before .before .before .before .before .before .before .before) .args .file .now))) ((c .before .before .before .before .before .before .before .before .before .before .before .before .before .before .before .before .before .before) .args .s) ((c .before .before .before .before .before .before .before .before .before .before .before .before .before .before .before .before .before .before) .pre .1 .1 .1 .0) ((c .before .before .before .before .before .before .before .before .before .before .before .before .before .before .before .before .before .before) .pre .1 .1 .1 .1 .1) ((c .before .before .before .before .before .before .before .before .before .before .before .before .before .before .work-node) .result) ((c .before .before .before .before .before .before .before .before .before .before .before .before .before .before .work-node) .ensures) .0)) ((c .before .before .before .before .before .substitute-single-use-symbol-in-list) .ensures), (c .before .before .before .before .before .before .before .before .before .before .before .before .before .before .before .before .before .before) .good .1 .1 .0))))
+
+substitute-single-use-symbol-behind-first-same-length-3 :
+    (t : ℕ) → substitute-single-use-symbol-behind-first-lts.Need-same-length-3 (work-node-reads.Asked, work-node-reads.Learnt, size-reads.Asked, size-reads.Learnt, is-passed-reads.Asked, is-passed-reads.Learnt, pass-row-reads.Asked, pass-row-reads.Learnt, stopped-reads.Asked, stopped-reads.Learnt, of-answered-reads.Asked, of-answered-reads.Learnt, of-passed-reads.Asked, of-passed-reads.Learnt, link-plan-reads.Asked, link-plan-reads.Learnt, next-plan-reads.Asked, next-plan-reads.Learnt, substitute-single-use-symbol-in-list-below t, substitute-single-use-symbol-in-list.Post, gathered-reads.Asked, gathered-reads.Learnt)
+    (substitute-single-use-symbol-behind-first-at t)
+    substitute-single-use-symbol-behind-first.Post
+substitute-single-use-symbol-behind-first-same-length-3 t c = search needs
+
+substitute-single-use-symbol-behind-first-returns-3 :
+    (t : ℕ) → substitute-single-use-symbol-behind-first-lts.Need-returns-3 (work-node-reads.Asked, work-node-reads.Learnt, size-reads.Asked, size-reads.Learnt, is-passed-reads.Asked, is-passed-reads.Learnt, pass-row-reads.Asked, pass-row-reads.Learnt, stopped-reads.Asked, stopped-reads.Learnt, of-answered-reads.Asked, of-answered-reads.Learnt, of-passed-reads.Asked, of-passed-reads.Learnt, link-plan-reads.Asked, link-plan-reads.Learnt, next-plan-reads.Asked, next-plan-reads.Learnt, substitute-single-use-symbol-in-list-below t, substitute-single-use-symbol-in-list.Post, gathered-reads.Asked, gathered-reads.Learnt)
+    (substitute-single-use-symbol-behind-first-at t)
+    substitute-single-use-symbol-behind-first.Post
+substitute-single-use-symbol-behind-first-returns-3 t c = λ table₀ g. behind-searched (contextOf (read ((c .before .before .before .before .before .before .before .before .before .before .before .before .before .before .before .before .before .before .before) .args .file .now))) ((c .before .before .before .before .before .before .before .before .before .before .before .before .before .before .before .before .before .before .before) .args .s) ((c .before .before .before .before .before .before .before .before .before .before .before .before .before .before .before .before .before .before .before) .pre .1 .1 .1 .0) g ((c .before .before .before .before .before .before .before .before .before .before .before .before .before .before .before .work-node) .result) ((c .before .before .before .before .before .before .before .before .before .before .before .before .before .before .before .work-node) .ensures) (row-all (contextOf (read ((c .before .before .before .before .before .before .before .before .before .before .before .before .before .before .before .before .before .before .before) .args .file .now))) ((c .before .before .before .before .before .before .before .before .before .before .before .before .before .before .before .before .before .before .before) .args .s) ((c .before .before .before .before .before .before .before .before .before .before .before .before .before .before .before .before .before .before .before) .pre .1 .1 .1 .0) g ((c .before .before .before .before .before .before .before .before .before .before .before .before .before .before .before .work-node) .result) ((c .before .before .before .before .before .before .before .before .before .before .before .before .before .before .before .work-node) .ensures) ((c .before .before .before .before .before .before .before .before .before .before .before .before .before .before .size) .result) ((c .before .before .before .before .before .before .before .before .before .before .before .before .before .before .size) .ensures .0) ((c .before .before .before .before .before .before .before .before .next-plan) .result) (sym ((c .before .before .before .before .before .before .before .before .before .before .before .before .is-passed) .ensures) ∙ not-false ((c .before .before .before .before .before .before .before .before .before .before .before .before .is-passed) .result) ((c .before .before .before .before .before .before .before .before .before .before .before .if1) .left)) ((c .before .before .before .before .before .before .before .before .next-plan) .ensures ∙ ap (λ p. nextPlan (planned p)) ((c .before .before .before .before .before .before .before .before .before .link-plan) .ensures)) ((c .before .before .before .before .before .before .substitute-single-use-symbol-in-list) .ensures) ((c .before .before .before .gathered) .ensures)) ((c .of-passed2) .ensures (ap (λ w. isPassed (w .answer)) ((c .before .before .before .gathered) .ensures) ∙ sym ((c .before .before .is-passed2) .ensures) ∙ (c .before .if3) .taken) _ _)
+
+substitute-single-use-symbol-behind-first-of-answered-requires-2 :
+    (t : ℕ) → substitute-single-use-symbol-behind-first-lts.Need-of-answered-requires-2 (work-node-reads.Asked, work-node-reads.Learnt, size-reads.Asked, size-reads.Learnt, is-passed-reads.Asked, is-passed-reads.Learnt, pass-row-reads.Asked, pass-row-reads.Learnt, stopped-reads.Asked, stopped-reads.Learnt, of-answered-reads.Asked, of-answered-reads.Learnt, of-passed-reads.Asked, of-passed-reads.Learnt, link-plan-reads.Asked, link-plan-reads.Learnt, next-plan-reads.Asked, next-plan-reads.Learnt, substitute-single-use-symbol-in-list-below t, substitute-single-use-symbol-in-list.Post, gathered-reads.Asked, gathered-reads.Learnt)
+    (substitute-single-use-symbol-behind-first-at t)
+    substitute-single-use-symbol-behind-first.Post
+substitute-single-use-symbol-behind-first-of-answered-requires-2 t c κs = (omega (arith, behind-room (contextOf (read ((c .before .before .before .before .before .before .before .before .before .before .before .before .before .before .before .before .before .before .before) .args .file .now))) ((c .before .before .before .before .before .before .before .before .before .before .before .before .before .before .before .before .before .before .before) .args .s) ((c .before .before .before .before .before .before .before .before .before .before .before .before .before .before .before .before .before .before .before) .pre .1 .1 .1 .0) ((c .before .before .before .before .before .before .before .before .before .before .before .before .before .before .before .before .before .before .before) .pre .1 .1 .1 .1 .1), (c .before .before .before .before .before .before .substitute-single-use-symbol-in-list) .kept .1 .1 .0), (let e : (c .before .before .before .gathered) .result .looks ≡ (c .before .before .before .before .before .before .before .before .before .before .before .before .before .before .before .before .before .before .before) .args .first .looks + (c .before .before .before .before .before .before .substitute-single-use-symbol-in-list) .result .looks = ap (λ w. w .looks) ((c .before .before .before .gathered) .ensures) in omega (arith, e, behind-row (contextOf (read ((c .before .before .before .before .before .before .before .before .before .before .before .before .before .before .before .before .before .before .before) .args .file .now))) ((c .before .before .before .before .before .before .before .before .before .before .before .before .before .before .before .before .before .before .before) .args .s) ((c .before .before .before .before .before .before .before .before .before .before .before .before .before .before .before .before .before .before .before) .pre .1 .1 .1 .0) ((c .before .before .before .before .before .before .before .before .before .before .before .before .before .before .before .before .before .before .before) .pre .1 .1 .1 .1 .1) ((c .before .before .before .before .before .before .before .before .before .before .before .before .before .before .before .work-node) .result) ((c .before .before .before .before .before .before .before .before .before .before .before .before .before .before .before .work-node) .ensures) .2, row-looks-most (contextOf (read ((c .before .before .before .before .before .before .before .before .before .before .before .before .before .before .before .before .before .before .before) .args .file .now))) ((c .before .before .before .before .before .before .before .before .before .before .before .before .before .before .before .before .before .before .before) .args .s) ((c .before .before .before .before .before .before .before .before .next-plan) .result) ((c .before .before .before .before .before .before .before .before .before .before .before .before .before .before .before .before .before .before .before) .pre .1 .1 .1 .0) (subst (λ k. SearchableRow ((c .before .before .before .before .before .before .before .before .before .before .before .before .before .before .before .before .before .before .before) .args .nodes .now) ((c .before .before .before .before .before .before .before .before .before .before .before .before .before .before .before .before .before .before .before) .args .first .next .0) (k - 1)) (sym ((c .before .before .before .before .before .before .before .before .before .before .before .before .before .before .size) .ensures .0)) (behind-row (contextOf (read ((c .before .before .before .before .before .before .before .before .before .before .before .before .before .before .before .before .before .before .before) .args .file .now))) ((c .before .before .before .before .before .before .before .before .before .before .before .before .before .before .before .before .before .before .before) .args .s) ((c .before .before .before .before .before .before .before .before .before .before .before .before .before .before .before .before .before .before .before) .pre .1 .1 .1 .0) ((c .before .before .before .before .before .before .before .before .before .before .before .before .before .before .before .before .before .before .before) .pre .1 .1 .1 .1 .1) ((c .before .before .before .before .before .before .before .before .before .before .before .before .before .before .before .work-node) .result) ((c .before .before .before .before .before .before .before .before .before .before .before .before .before .before .before .work-node) .ensures) .0)) ((c .before .before .before .before .before .before .substitute-single-use-symbol-in-list) .ensures), (c .before .before .before .before .before .before .before .before .before .before .before .before .before .before .before .before .before .before .before) .good .1 .1 .0)))
+
+substitute-single-use-symbol-behind-first-same-length-4 :
+    (t : ℕ) → substitute-single-use-symbol-behind-first-lts.Need-same-length-4 (work-node-reads.Asked, work-node-reads.Learnt, size-reads.Asked, size-reads.Learnt, is-passed-reads.Asked, is-passed-reads.Learnt, pass-row-reads.Asked, pass-row-reads.Learnt, stopped-reads.Asked, stopped-reads.Learnt, of-answered-reads.Asked, of-answered-reads.Learnt, of-passed-reads.Asked, of-passed-reads.Learnt, link-plan-reads.Asked, link-plan-reads.Learnt, next-plan-reads.Asked, next-plan-reads.Learnt, substitute-single-use-symbol-in-list-below t, substitute-single-use-symbol-in-list.Post, gathered-reads.Asked, gathered-reads.Learnt)
+    (substitute-single-use-symbol-behind-first-at t)
+    substitute-single-use-symbol-behind-first.Post
+substitute-single-use-symbol-behind-first-same-length-4 t c = search needs
+
+substitute-single-use-symbol-behind-first-returns-4 :
+    (t : ℕ) → substitute-single-use-symbol-behind-first-lts.Need-returns-4 (work-node-reads.Asked, work-node-reads.Learnt, size-reads.Asked, size-reads.Learnt, is-passed-reads.Asked, is-passed-reads.Learnt, pass-row-reads.Asked, pass-row-reads.Learnt, stopped-reads.Asked, stopped-reads.Learnt, of-answered-reads.Asked, of-answered-reads.Learnt, of-passed-reads.Asked, of-passed-reads.Learnt, link-plan-reads.Asked, link-plan-reads.Learnt, next-plan-reads.Asked, next-plan-reads.Learnt, substitute-single-use-symbol-in-list-below t, substitute-single-use-symbol-in-list.Post, gathered-reads.Asked, gathered-reads.Learnt)
+    (substitute-single-use-symbol-behind-first-at t)
+    substitute-single-use-symbol-behind-first.Post
+substitute-single-use-symbol-behind-first-returns-4 t c = λ table₀ g. behind-searched (contextOf (read ((c .before .before .before .before .before .before .before .before .before .before .before .before .before .before .before .before .before .before .before .before .before .before) .args .file .now))) ((c .before .before .before .before .before .before .before .before .before .before .before .before .before .before .before .before .before .before .before .before .before .before) .args .s) ((c .before .before .before .before .before .before .before .before .before .before .before .before .before .before .before .before .before .before .before .before .before .before) .pre .1 .1 .1 .0) g ((c .before .before .before .before .before .before .before .before .before .before .before .before .before .before .before .before .before .before .work-node) .result) ((c .before .before .before .before .before .before .before .before .before .before .before .before .before .before .before .before .before .before .work-node) .ensures) (row-all (contextOf (read ((c .before .before .before .before .before .before .before .before .before .before .before .before .before .before .before .before .before .before .before .before .before .before) .args .file .now))) ((c .before .before .before .before .before .before .before .before .before .before .before .before .before .before .before .before .before .before .before .before .before .before) .args .s) ((c .before .before .before .before .before .before .before .before .before .before .before .before .before .before .before .before .before .before .before .before .before .before) .pre .1 .1 .1 .0) g ((c .before .before .before .before .before .before .before .before .before .before .before .before .before .before .before .before .before .before .work-node) .result) ((c .before .before .before .before .before .before .before .before .before .before .before .before .before .before .before .before .before .before .work-node) .ensures) ((c .before .before .before .before .before .before .before .before .before .before .before .before .before .before .before .before .before .size) .result) ((c .before .before .before .before .before .before .before .before .before .before .before .before .before .before .before .before .before .size) .ensures .0) ((c .before .before .before .before .before .before .before .before .before .before .before .next-plan) .result) (sym ((c .before .before .before .before .before .before .before .before .before .before .before .before .before .before .before .is-passed) .ensures) ∙ not-false ((c .before .before .before .before .before .before .before .before .before .before .before .before .before .before .before .is-passed) .result) ((c .before .before .before .before .before .before .before .before .before .before .before .before .before .before .if1) .left)) ((c .before .before .before .before .before .before .before .before .before .before .before .next-plan) .ensures ∙ ap (λ p. nextPlan (planned p)) ((c .before .before .before .before .before .before .before .before .before .before .before .before .link-plan) .ensures)) ((c .before .before .before .before .before .before .before .before .before .substitute-single-use-symbol-in-list) .ensures) ((c .before .before .before .before .before .before .gathered) .ensures)) ((c .before .before .of-answered2) .ensures .0 (ap (λ w. isPassed (w .answer)) ((c .before .before .before .before .before .before .gathered) .ensures) ∙ sym ((c .before .before .before .before .before .is-passed2) .ensures) ∙ (c .before .before .before .before .if3) .left) (contextOf (read ((c .before .before .before .before .before .before .before .before .before .before .before .before .before .before .before .before .before .before .before .before .before .before) .args .file .now))) false ((c .before .before .before .before .before .before .before .before .before .before .before .before .before .before .before .before .before .before .before .before .before .before) .args .s))
+
+abbrev substitute-single-use-symbol-in-expression-Inv-loop :
+    substitute-single-use-symbol-in-expression-lts.InvT-loop
+substitute-single-use-symbol-in-expression-Inv-loop file h nodes₀ at s w₀ i₀ replaced₀ nodes w i replaced = (replaced ≡ isReplaced (w .answer)) × (length nodes ≡ length nodes₀) × ((table₀ : List ℕ) → Within (contextOf (read file)) s table₀ nodes₀ (at .0) i₀ w₀ → Within (contextOf (read file)) s table₀ nodes (at .0) i w)
+
+abbrev substitute-single-use-symbol-in-expression-μ-loop :
+    substitute-single-use-symbol-in-expression-lts.MeasureT-loop
+substitute-single-use-symbol-in-expression-μ-loop file h nodes₀ at s w₀ i₀ replaced₀ nodes w i replaced = i
+
 substitute-single-use-symbol-in-expression-behind-links-requires :
-    (t : ℕ) → substitute-single-use-symbol-in-expression-lts.Need-behind-links-requires (behind-links-reads.Asked, behind-links-reads.Learnt, substitute-single-use-symbol-in-node-below t, substitute-single-use-symbol-in-node.Post, of-links-reads.Asked, of-links-reads.Learnt)
+    (t : ℕ) → substitute-single-use-symbol-in-expression-lts.Need-behind-links-requires (behind-links-reads.Asked, behind-links-reads.Learnt, substitute-single-use-symbol-in-node-below t, substitute-single-use-symbol-in-node.Post, is-replaced-reads.Asked, is-replaced-reads.Learnt, substitute-single-use-symbol-behind-first-below t, substitute-single-use-symbol-behind-first.Post, of-links-reads.Asked, of-links-reads.Learnt)
     (substitute-single-use-symbol-in-expression-at t)
     substitute-single-use-symbol-in-expression.Post
+    substitute-single-use-symbol-in-expression-Inv-loop
+    substitute-single-use-symbol-in-expression-μ-loop
 substitute-single-use-symbol-in-expression-behind-links-requires t c κs = ((c .before .before .before) .pre .1 .1 .1 .0)
 
 substitute-single-use-symbol-in-expression-substitute-single-use-symbol-in-node-requires :
     (t : ℕ) →
-    substitute-single-use-symbol-in-expression-lts.Need-substitute-single-use-symbol-in-node-requires (behind-links-reads.Asked, behind-links-reads.Learnt, substitute-single-use-symbol-in-node-below t, substitute-single-use-symbol-in-node.Post, of-links-reads.Asked, of-links-reads.Learnt)
+    substitute-single-use-symbol-in-expression-lts.Need-substitute-single-use-symbol-in-node-requires (behind-links-reads.Asked, behind-links-reads.Learnt, substitute-single-use-symbol-in-node-below t, substitute-single-use-symbol-in-node.Post, is-replaced-reads.Asked, is-replaced-reads.Learnt, substitute-single-use-symbol-behind-first-below t, substitute-single-use-symbol-behind-first.Post, of-links-reads.Asked, of-links-reads.Learnt)
     (substitute-single-use-symbol-in-expression-at t)
     substitute-single-use-symbol-in-expression.Post
+    substitute-single-use-symbol-in-expression-Inv-loop
+    substitute-single-use-symbol-in-expression-μ-loop
 substitute-single-use-symbol-in-expression-substitute-single-use-symbol-in-node-requires t c κs = (omega (arith, (c .before .before .before .before .before) .pre .0, (c .before .behind-links) .ensures .0, searchable-room ((c .before .before .before .before .before) .pre .1 .1 .1 .0)), ((c .before .before .before .before .before) .pre .1 .0, ((c .before .before .before .before .before) .pre .1 .1 .0, ((c .before .behind-links) .ensures .2, ((c .before .before .before .before .before) .pre .1 .1 .1 .1)))))
 
-substitute-single-use-symbol-in-expression-of-links-requires :
-    (t : ℕ) → substitute-single-use-symbol-in-expression-lts.Need-of-links-requires (behind-links-reads.Asked, behind-links-reads.Learnt, substitute-single-use-symbol-in-node-below t, substitute-single-use-symbol-in-node.Post, of-links-reads.Asked, of-links-reads.Learnt)
+substitute-single-use-symbol-in-expression-is-replaced-requires :
+    (t : ℕ) → substitute-single-use-symbol-in-expression-lts.Need-is-replaced-requires (behind-links-reads.Asked, behind-links-reads.Learnt, substitute-single-use-symbol-in-node-below t, substitute-single-use-symbol-in-node.Post, is-replaced-reads.Asked, is-replaced-reads.Learnt, substitute-single-use-symbol-behind-first-below t, substitute-single-use-symbol-behind-first.Post, of-links-reads.Asked, of-links-reads.Learnt)
     (substitute-single-use-symbol-in-expression-at t)
     substitute-single-use-symbol-in-expression.Post
-substitute-single-use-symbol-in-expression-of-links-requires t c κs = ((c .before .before .before .before .before .before .before .before .before) .pre .1 .0, ((c .before .before .before .before .before .before .before .before .before) .pre .1 .1 .0, (((c .before .before .before .before .before .before .before .before .before) .pre .1 .1 .1 .1), ((c .before .before .before .before .before .before .before .before .before) .args .nodes .now, record { later = (c .before .before .before .before .before .behind-links) .ensures .0; links = (c .before .before .before .before .before .behind-links) .ensures .1; here = (c .before .before .before .before .before .behind-links) .ensures .2; did = (c .before .before .before .substitute-single-use-symbol-in-node) .ensures; same = (c .before .before .before .substitute-single-use-symbol-in-node) .kept .1 .1 .0 }))))
+    substitute-single-use-symbol-in-expression-Inv-loop
+    substitute-single-use-symbol-in-expression-μ-loop
+substitute-single-use-symbol-in-expression-is-replaced-requires t c κs = tt
+
+substitute-single-use-symbol-in-expression-loop-holds :
+    (t : ℕ) → substitute-single-use-symbol-in-expression-lts.Need-loop-holds (behind-links-reads.Asked, behind-links-reads.Learnt, substitute-single-use-symbol-in-node-below t, substitute-single-use-symbol-in-node.Post, is-replaced-reads.Asked, is-replaced-reads.Learnt, substitute-single-use-symbol-behind-first-below t, substitute-single-use-symbol-behind-first.Post, of-links-reads.Asked, of-links-reads.Learnt)
+    (substitute-single-use-symbol-in-expression-at t)
+    substitute-single-use-symbol-in-expression.Post
+    substitute-single-use-symbol-in-expression-Inv-loop
+    substitute-single-use-symbol-in-expression-μ-loop
+substitute-single-use-symbol-in-expression-loop-holds t c = ((c .is-replaced) .ensures, refl, λ table₀ g. g)
+
+substitute-single-use-symbol-in-expression-sub-i :
+    (t : ℕ) → substitute-single-use-symbol-in-expression-lts.Need-sub-i (behind-links-reads.Asked, behind-links-reads.Learnt, substitute-single-use-symbol-in-node-below t, substitute-single-use-symbol-in-node.Post, is-replaced-reads.Asked, is-replaced-reads.Learnt, substitute-single-use-symbol-behind-first-below t, substitute-single-use-symbol-behind-first.Post, of-links-reads.Asked, of-links-reads.Learnt)
+    (substitute-single-use-symbol-in-expression-at t)
+    substitute-single-use-symbol-in-expression.Post
+    substitute-single-use-symbol-in-expression-Inv-loop
+    substitute-single-use-symbol-in-expression-μ-loop
+substitute-single-use-symbol-in-expression-sub-i t c = omega (arith, (ltb-true ((c .before .before .before .before .before .before .before .before .before .before .before .before) .args .at .0) ((c .before .before .loop) .i) (and-right (not ((c .before .before .loop) .replaced)) (ltb ((c .before .before .before .before .before .before .before .before .before .before .before .before) .args .at .0) ((c .before .before .loop) .i)) ((c .if1) .taken))))
+
+substitute-single-use-symbol-in-expression-substitute-single-use-symbol-behind-first-requires :
+    (t : ℕ) →
+    substitute-single-use-symbol-in-expression-lts.Need-substitute-single-use-symbol-behind-first-requires (behind-links-reads.Asked, behind-links-reads.Learnt, substitute-single-use-symbol-in-node-below t, substitute-single-use-symbol-in-node.Post, is-replaced-reads.Asked, is-replaced-reads.Learnt, substitute-single-use-symbol-behind-first-below t, substitute-single-use-symbol-behind-first.Post, of-links-reads.Asked, of-links-reads.Learnt)
+    (substitute-single-use-symbol-in-expression-at t)
+    substitute-single-use-symbol-in-expression.Post
+    substitute-single-use-symbol-in-expression-Inv-loop
+    substitute-single-use-symbol-in-expression-μ-loop
+substitute-single-use-symbol-in-expression-substitute-single-use-symbol-behind-first-requires t c κs = (omega (arith, (c .before .before .before .before .before .before .before .before .before .before .before .before .before) .pre .0, (ltb-true ((c .before .before .before .before .before .before .before .before .before .before .before .before .before) .args .at .0) ((c .before .before .before .loop) .i) (and-right (not ((c .before .before .before .loop) .replaced)) (ltb ((c .before .before .before .before .before .before .before .before .before .before .before .before .before) .args .at .0) ((c .before .before .before .loop) .i)) ((c .before .if1) .taken))), (c .before .before .before .loop) .inv .1, (c .before .before .before .before .before .before .before .substitute-single-use-symbol-in-node) .kept .1 .1 .0, within-room (contextOf (read ((c .before .before .before .before .before .before .before .before .before .before .before .before .before) .args .file .now))) ((c .before .before .before .before .before .before .before .before .before .before .before .before .before) .args .s) ((c .before .before .before .loop) .inv .2 ((c .before .before .before .before .before .before .before .before .before .before .before .before .before) .args .nodes .now) (record { later = (c .before .before .before .before .before .before .before .before .before .behind-links) .ensures .0; links = (c .before .before .before .before .before .before .before .before .before .behind-links) .ensures .1; here = (c .before .before .before .before .before .before .before .before .before .behind-links) .ensures .2; did = (c .before .before .before .before .before .before .before .substitute-single-use-symbol-in-node) .ensures; same = (c .before .before .before .before .before .before .before .substitute-single-use-symbol-in-node) .kept .1 .1 .0 })) (ltb-true ((c .before .before .before .before .before .before .before .before .before .before .before .before .before) .args .at .0) ((c .before .before .before .loop) .i) (and-right (not ((c .before .before .before .loop) .replaced)) (ltb ((c .before .before .before .before .before .before .before .before .before .before .before .before .before) .args .at .0) ((c .before .before .before .loop) .i)) ((c .before .if1) .taken)))), ((c .before .before .before .before .before .before .before .before .before .before .before .before .before) .pre .1 .0, ((c .before .before .before .before .before .before .before .before .before .before .before .before .before) .pre .1 .1 .0, (((c .before .before .before .before .before .before .before .before .before .before .before .before .before) .pre .1 .1 .1 .1), ((c .before .before .before .before .before .before .before .before .before .before .before .before .before) .args .nodes .now, within-first (contextOf (read ((c .before .before .before .before .before .before .before .before .before .before .before .before .before) .args .file .now))) ((c .before .before .before .before .before .before .before .before .before .before .before .before .before) .args .s) ((c .before .before .before .loop) .inv .2 ((c .before .before .before .before .before .before .before .before .before .before .before .before .before) .args .nodes .now) (record { later = (c .before .before .before .before .before .before .before .before .before .behind-links) .ensures .0; links = (c .before .before .before .before .before .before .before .before .before .behind-links) .ensures .1; here = (c .before .before .before .before .before .before .before .before .before .behind-links) .ensures .2; did = (c .before .before .before .before .before .before .before .substitute-single-use-symbol-in-node) .ensures; same = (c .before .before .before .before .before .before .before .substitute-single-use-symbol-in-node) .kept .1 .1 .0 })) (ltb-true ((c .before .before .before .before .before .before .before .before .before .before .before .before .before) .args .at .0) ((c .before .before .before .loop) .i) (and-right (not ((c .before .before .before .loop) .replaced)) (ltb ((c .before .before .before .before .before .before .before .before .before .before .before .before .before) .args .at .0) ((c .before .before .before .loop) .i)) ((c .before .if1) .taken))) (sym ((c .before .before .before .loop) .inv .0) ∙ not-true ((c .before .before .before .loop) .replaced) (and-left (not ((c .before .before .before .loop) .replaced)) (ltb ((c .before .before .before .before .before .before .before .before .before .before .before .before .before) .args .at .0) ((c .before .before .before .loop) .i)) ((c .before .if1) .taken))))))))
+
+substitute-single-use-symbol-in-expression-is-replaced-requires-2 :
+    (t : ℕ) → substitute-single-use-symbol-in-expression-lts.Need-is-replaced-requires-2 (behind-links-reads.Asked, behind-links-reads.Learnt, substitute-single-use-symbol-in-node-below t, substitute-single-use-symbol-in-node.Post, is-replaced-reads.Asked, is-replaced-reads.Learnt, substitute-single-use-symbol-behind-first-below t, substitute-single-use-symbol-behind-first.Post, of-links-reads.Asked, of-links-reads.Learnt)
+    (substitute-single-use-symbol-in-expression-at t)
+    substitute-single-use-symbol-in-expression.Post
+    substitute-single-use-symbol-in-expression-Inv-loop
+    substitute-single-use-symbol-in-expression-μ-loop
+substitute-single-use-symbol-in-expression-is-replaced-requires-2 t c κs = tt
+
+substitute-single-use-symbol-in-expression-loop-less :
+    (t : ℕ) → substitute-single-use-symbol-in-expression-lts.Need-loop-less (behind-links-reads.Asked, behind-links-reads.Learnt, substitute-single-use-symbol-in-node-below t, substitute-single-use-symbol-in-node.Post, is-replaced-reads.Asked, is-replaced-reads.Learnt, substitute-single-use-symbol-behind-first-below t, substitute-single-use-symbol-behind-first.Post, of-links-reads.Asked, of-links-reads.Learnt)
+    (substitute-single-use-symbol-in-expression-at t)
+    substitute-single-use-symbol-in-expression.Post
+    substitute-single-use-symbol-in-expression-Inv-loop
+    substitute-single-use-symbol-in-expression-μ-loop
+substitute-single-use-symbol-in-expression-loop-less t c = omega (arith, (ltb-true ((c .before .before .before .before .before .before .before .before .before .before .before .before .before .before .before .before .before) .args .at .0) ((c .before .before .before .before .before .before .before .loop) .i) (and-right (not ((c .before .before .before .before .before .before .before .loop) .replaced)) (ltb ((c .before .before .before .before .before .before .before .before .before .before .before .before .before .before .before .before .before) .args .at .0) ((c .before .before .before .before .before .before .before .loop) .i)) ((c .before .before .before .before .before .if1) .taken))))
+
+substitute-single-use-symbol-in-expression-loop-again :
+    (t : ℕ) → substitute-single-use-symbol-in-expression-lts.Need-loop-again (behind-links-reads.Asked, behind-links-reads.Learnt, substitute-single-use-symbol-in-node-below t, substitute-single-use-symbol-in-node.Post, is-replaced-reads.Asked, is-replaced-reads.Learnt, substitute-single-use-symbol-behind-first-below t, substitute-single-use-symbol-behind-first.Post, of-links-reads.Asked, of-links-reads.Learnt)
+    (substitute-single-use-symbol-in-expression-at t)
+    substitute-single-use-symbol-in-expression.Post
+    substitute-single-use-symbol-in-expression-Inv-loop
+    substitute-single-use-symbol-in-expression-μ-loop
+substitute-single-use-symbol-in-expression-loop-again t c = ((c .is-replaced2) .ensures, (c .before .before .before .substitute-single-use-symbol-behind-first) .kept .1 .1 .0 ∙ (c .before .before .before .before .before .before .before .loop) .inv .1, λ table₀ g. within-behind (contextOf (read ((c .before .before .before .before .before .before .before .before .before .before .before .before .before .before .before .before .before) .args .file .now))) ((c .before .before .before .before .before .before .before .before .before .before .before .before .before .before .before .before .before) .args .s) ((c .before .before .before .before .before .before .before .loop) .inv .2 table₀ g) (ltb-true ((c .before .before .before .before .before .before .before .before .before .before .before .before .before .before .before .before .before) .args .at .0) ((c .before .before .before .before .before .before .before .loop) .i) (and-right (not ((c .before .before .before .before .before .before .before .loop) .replaced)) (ltb ((c .before .before .before .before .before .before .before .before .before .before .before .before .before .before .before .before .before) .args .at .0) ((c .before .before .before .before .before .before .before .loop) .i)) ((c .before .before .before .before .before .if1) .taken))) ((c .before .before .before .substitute-single-use-symbol-behind-first) .ensures table₀ (within-first (contextOf (read ((c .before .before .before .before .before .before .before .before .before .before .before .before .before .before .before .before .before) .args .file .now))) ((c .before .before .before .before .before .before .before .before .before .before .before .before .before .before .before .before .before) .args .s) ((c .before .before .before .before .before .before .before .loop) .inv .2 table₀ g) (ltb-true ((c .before .before .before .before .before .before .before .before .before .before .before .before .before .before .before .before .before) .args .at .0) ((c .before .before .before .before .before .before .before .loop) .i) (and-right (not ((c .before .before .before .before .before .before .before .loop) .replaced)) (ltb ((c .before .before .before .before .before .before .before .before .before .before .before .before .before .before .before .before .before) .args .at .0) ((c .before .before .before .before .before .before .before .loop) .i)) ((c .before .before .before .before .before .if1) .taken))) (sym ((c .before .before .before .before .before .before .before .loop) .inv .0) ∙ not-true ((c .before .before .before .before .before .before .before .loop) .replaced) (and-left (not ((c .before .before .before .before .before .before .before .loop) .replaced)) (ltb ((c .before .before .before .before .before .before .before .before .before .before .before .before .before .before .before .before .before) .args .at .0) ((c .before .before .before .before .before .before .before .loop) .i)) ((c .before .before .before .before .before .if1) .taken))))) ((c .before .before .before .substitute-single-use-symbol-behind-first) .kept .1 .1 .0))
+
+substitute-single-use-symbol-in-expression-of-links-requires :
+    (t : ℕ) → substitute-single-use-symbol-in-expression-lts.Need-of-links-requires (behind-links-reads.Asked, behind-links-reads.Learnt, substitute-single-use-symbol-in-node-below t, substitute-single-use-symbol-in-node.Post, is-replaced-reads.Asked, is-replaced-reads.Learnt, substitute-single-use-symbol-behind-first-below t, substitute-single-use-symbol-behind-first.Post, of-links-reads.Asked, of-links-reads.Learnt)
+    (substitute-single-use-symbol-in-expression-at t)
+    substitute-single-use-symbol-in-expression.Post
+    substitute-single-use-symbol-in-expression-Inv-loop
+    substitute-single-use-symbol-in-expression-μ-loop
+substitute-single-use-symbol-in-expression-of-links-requires t c κs = ((λ l. sym ((c .before .before .before .loop) .inv .0) ∙ not-false ((c .before .before .before .loop) .replaced) (ended (not ((c .before .before .before .loop) .replaced)) ((c .before .before .before .before .before .before .before .before .before .before .before .before .before) .args .at .0) ((c .before .before .before .loop) .i) ((c .before .if1) .left) l)), ((contextOf (read ((c .before .before .before .before .before .before .before .before .before .before .before .before .before) .args .file .now))), ((c .before .before .before .before .before .before .before .before .before .before .before .before .before) .args .s), ((c .before .before .before .before .before .before .before .before .before .before .before .before .before) .pre .1 .1 .1 .1), (c .before .before .before .before .before .before .before .before .before .before .before .before .before) .args .nodes .now, ((c .before .before .before .loop) .inv .2 ((c .before .before .before .before .before .before .before .before .before .before .before .before .before) .args .nodes .now) (record { later = (c .before .before .before .before .before .before .before .before .before .behind-links) .ensures .0; links = (c .before .before .before .before .before .before .before .before .before .behind-links) .ensures .1; here = (c .before .before .before .before .before .before .before .before .before .behind-links) .ensures .2; did = (c .before .before .before .before .before .before .before .substitute-single-use-symbol-in-node) .ensures; same = (c .before .before .before .before .before .before .before .substitute-single-use-symbol-in-node) .kept .1 .1 .0 }))))
 
 substitute-single-use-symbol-in-expression-same-length :
-    (t : ℕ) → substitute-single-use-symbol-in-expression-lts.Need-same-length (behind-links-reads.Asked, behind-links-reads.Learnt, substitute-single-use-symbol-in-node-below t, substitute-single-use-symbol-in-node.Post, of-links-reads.Asked, of-links-reads.Learnt)
+    (t : ℕ) → substitute-single-use-symbol-in-expression-lts.Need-same-length (behind-links-reads.Asked, behind-links-reads.Learnt, substitute-single-use-symbol-in-node-below t, substitute-single-use-symbol-in-node.Post, is-replaced-reads.Asked, is-replaced-reads.Learnt, substitute-single-use-symbol-behind-first-below t, substitute-single-use-symbol-behind-first.Post, of-links-reads.Asked, of-links-reads.Learnt)
     (substitute-single-use-symbol-in-expression-at t)
     substitute-single-use-symbol-in-expression.Post
-substitute-single-use-symbol-in-expression-same-length t c = search needs
+    substitute-single-use-symbol-in-expression-Inv-loop
+    substitute-single-use-symbol-in-expression-μ-loop
+substitute-single-use-symbol-in-expression-same-length t c = omega (arith, (c .before .before .of-links) .kept .0, (c .before .before .before .before .before .before .loop) .inv .1, (c .before .before .before .before .before .before .before .before .before .before .substitute-single-use-symbol-in-node) .kept .1 .1 .0)
 
 substitute-single-use-symbol-in-expression-returns :
-    (t : ℕ) → substitute-single-use-symbol-in-expression-lts.Need-returns (behind-links-reads.Asked, behind-links-reads.Learnt, substitute-single-use-symbol-in-node-below t, substitute-single-use-symbol-in-node.Post, of-links-reads.Asked, of-links-reads.Learnt)
+    (t : ℕ) → substitute-single-use-symbol-in-expression-lts.Need-returns (behind-links-reads.Asked, behind-links-reads.Learnt, substitute-single-use-symbol-in-node-below t, substitute-single-use-symbol-in-node.Post, is-replaced-reads.Asked, is-replaced-reads.Learnt, substitute-single-use-symbol-behind-first-below t, substitute-single-use-symbol-behind-first.Post, of-links-reads.Asked, of-links-reads.Learnt)
     (substitute-single-use-symbol-in-expression-at t)
     substitute-single-use-symbol-in-expression.Post
-substitute-single-use-symbol-in-expression-returns t c = (c .before .before .of-links) .ensures ((c .before .before .before .before .before .before .before .before .before .before .before .before) .args .nodes .now) (record { later = (c .before .before .before .before .before .before .before .before .behind-links) .ensures .0; links = (c .before .before .before .before .before .before .before .before .behind-links) .ensures .1; here = (c .before .before .before .before .before .before .before .before .behind-links) .ensures .2; did = (c .before .before .before .before .before .before .substitute-single-use-symbol-in-node) .ensures; same = (c .before .before .before .before .before .before .substitute-single-use-symbol-in-node) .kept .1 .1 .0 })
+    substitute-single-use-symbol-in-expression-Inv-loop
+    substitute-single-use-symbol-in-expression-μ-loop
+substitute-single-use-symbol-in-expression-returns t c = (c .before .before .of-links) .ensures (contextOf (read ((c .before .before .before .before .before .before .before .before .before .before .before .before .before .before .before .before) .args .file .now))) ((c .before .before .before .before .before .before .before .before .before .before .before .before .before .before .before .before) .args .s) ((c .before .before .before .before .before .before .before .before .before .before .before .before .before .before .before .before) .pre .1 .1 .1 .1) ((c .before .before .before .before .before .before .before .before .before .before .before .before .before .before .before .before) .args .nodes .now) ((c .before .before .before .before .before .before .loop) .inv .2 ((c .before .before .before .before .before .before .before .before .before .before .before .before .before .before .before .before) .args .nodes .now) (record { later = (c .before .before .before .before .before .before .before .before .before .before .before .before .behind-links) .ensures .0; links = (c .before .before .before .before .before .before .before .before .before .before .before .before .behind-links) .ensures .1; here = (c .before .before .before .before .before .before .before .before .before .before .before .before .behind-links) .ensures .2; did = (c .before .before .before .before .before .before .before .before .before .before .substitute-single-use-symbol-in-node) .ensures; same = (c .before .before .before .before .before .before .before .before .before .before .substitute-single-use-symbol-in-node) .kept .1 .1 .0 }))
 
 substitute-single-use-symbol-in-item-work-node-requires :
     (t : ℕ) → substitute-single-use-symbol-in-item-lts.Need-work-node-requires (work-node-reads.Asked, work-node-reads.Learnt, is-leaf-reads.Asked, is-leaf-reads.Learnt, is-specific-id-reads.Asked, is-specific-id-reads.Learnt, of-leaf-reads.Asked, of-leaf-reads.Learnt, substitute-single-use-symbol-in-expression-below t, substitute-single-use-symbol-in-expression.Post) (substitute-single-use-symbol-in-item-at t) substitute-single-use-symbol-in-item.Post
@@ -642,19 +902,56 @@ substitute-single-use-symbol-in-node-returns-6 :
     (t : ℕ) → substitute-single-use-symbol-in-node-lts.Need-returns-6 (work-node-reads.Asked, work-node-reads.Learnt, is-specific-id-reads.Asked, is-specific-id-reads.Learnt, found-reads.Asked, found-reads.Learnt, begin-reads.Asked, begin-reads.Learnt, is-one-reads.Asked, is-one-reads.Learnt, substitute-single-use-symbol-in-expression-below t, substitute-single-use-symbol-in-expression.Post, is-passed-reads.Asked, is-passed-reads.Learnt, of-passed-reads.Asked, of-passed-reads.Learnt, of-answered-reads.Asked, of-answered-reads.Learnt, substitute-single-use-symbol-in-list-below t, substitute-single-use-symbol-in-list.Post) (substitute-single-use-symbol-in-node-at t) substitute-single-use-symbol-in-node.Post
 substitute-single-use-symbol-in-node-returns-6 t c = node-searched (contextOf (read ((c .before .before .before .before .before .before .before .before .before .before .before .before .before .before .before .before .before .before .before .before .before .before) .args .file .now))) ((c .before .before .before .before .before .before .before .before .before .before .before .before .before .before .before .before .before .before .before .before .before .before) .args .s) ((c .before .before .before .before .before .before .before .before .before .before .before .before .before .before .before .before .before .before .work-node) .result) ((c .before .before .before .before .before .before .before .before .before .before .before .before .before .before .before .before .before .before .work-node) .ensures) (sym ((c .before .before .before .before .before .before .before .before .before .before .before .before .before .before .before .before .before .is-specific-id) .ensures) ∙ (c .before .before .before .before .before .before .before .before .before .before .before .before .before .before .before .before .if1) .left) ((c .before .before .before .before .before .before .before .before .before .before .before .before .before .before .begin) .ensures) ((c .before .before .before .before .before .before .before .before .before .before .before .before .before .if2) .left) ((c .before .before .before .before .before .before .before .before .substitute-single-use-symbol-in-list) .ensures) ((c .before .before .of-answered2) .ensures .0 (sym ((c .before .before .before .before .before .is-passed2) .ensures) ∙ (c .before .before .before .before .if5) .left) (contextOf (read ((c .before .before .before .before .before .before .before .before .before .before .before .before .before .before .before .before .before .before .before .before .before .before) .args .file .now))) ((c .before .before .before .before .before .before .before .before .before .before .before .before .before .before .begin) .result .stops) ((c .before .before .before .before .before .before .before .before .before .before .before .before .before .before .before .before .before .before .before .before .before .before) .args .s))
 
-pub +substitute-single-use-symbol-in-expression+substitute-single-use-symbol-in-item+substitute-single-use-symbol-in-list+substitute-single-use-symbol-in-node-spec :
+pub +substitute-single-use-symbol-behind-first+substitute-single-use-symbol-in-expression+substitute-single-use-symbol-in-item+substitute-single-use-symbol-in-list+substitute-single-use-symbol-in-node-spec :
     {M : Type 1} → statement M
-+substitute-single-use-symbol-in-expression+substitute-single-use-symbol-in-item+substitute-single-use-symbol-in-list+substitute-single-use-symbol-in-node-spec =
++substitute-single-use-symbol-behind-first+substitute-single-use-symbol-in-expression+substitute-single-use-symbol-in-item+substitute-single-use-symbol-in-list+substitute-single-use-symbol-in-node-spec =
     close
+    μ-substitute-single-use-symbol-behind-first
     μ-substitute-single-use-symbol-in-expression
     μ-substitute-single-use-symbol-in-item
     μ-substitute-single-use-symbol-in-list
     μ-substitute-single-use-symbol-in-node
-    (λ t. substitute-single-use-symbol-in-expression-lts.spec (behind-links-reads.Asked, behind-links-reads.Learnt, substitute-single-use-symbol-in-node-below t, substitute-single-use-symbol-in-node.Post, of-links-reads.Asked, of-links-reads.Learnt)
+    (λ t. substitute-single-use-symbol-behind-first-lts.spec (work-node-reads.Asked, work-node-reads.Learnt, size-reads.Asked, size-reads.Learnt, is-passed-reads.Asked, is-passed-reads.Learnt, pass-row-reads.Asked, pass-row-reads.Learnt, stopped-reads.Asked, stopped-reads.Learnt, of-answered-reads.Asked, of-answered-reads.Learnt, of-passed-reads.Asked, of-passed-reads.Learnt, link-plan-reads.Asked, link-plan-reads.Learnt, next-plan-reads.Asked, next-plan-reads.Learnt, substitute-single-use-symbol-in-list-below t, substitute-single-use-symbol-in-list.Post, gathered-reads.Asked, gathered-reads.Learnt)
+    (substitute-single-use-symbol-behind-first-at t)
+    substitute-single-use-symbol-behind-first.Post
+    (substitute-single-use-symbol-behind-first-work-node-requires t)
+    (substitute-single-use-symbol-behind-first-size-requires t)
+    (substitute-single-use-symbol-behind-first-sub-left t)
+    (substitute-single-use-symbol-behind-first-is-passed-requires t)
+    (substitute-single-use-symbol-behind-first-pass-row-requires t)
+    (substitute-single-use-symbol-behind-first-stopped-requires t)
+    (substitute-single-use-symbol-behind-first-of-answered-requires t)
+    (substitute-single-use-symbol-behind-first-same-length t)
+    (substitute-single-use-symbol-behind-first-returns t)
+    (substitute-single-use-symbol-behind-first-of-passed-requires t)
+    (substitute-single-use-symbol-behind-first-same-length-2 t)
+    (substitute-single-use-symbol-behind-first-returns-2 t)
+    (substitute-single-use-symbol-behind-first-link-plan-requires t)
+    (substitute-single-use-symbol-behind-first-next-plan-requires t)
+    (substitute-single-use-symbol-behind-first-substitute-single-use-symbol-in-list-requires t)
+    (substitute-single-use-symbol-behind-first-gathered-requires t)
+    (substitute-single-use-symbol-behind-first-is-passed-requires-2 t)
+    (substitute-single-use-symbol-behind-first-of-passed-requires-2 t)
+    (substitute-single-use-symbol-behind-first-same-length-3 t)
+    (substitute-single-use-symbol-behind-first-returns-3 t)
+    (substitute-single-use-symbol-behind-first-of-answered-requires-2 t)
+    (substitute-single-use-symbol-behind-first-same-length-4 t)
+    (substitute-single-use-symbol-behind-first-returns-4 t))
+    (λ t. substitute-single-use-symbol-in-expression-lts.spec (behind-links-reads.Asked, behind-links-reads.Learnt, substitute-single-use-symbol-in-node-below t, substitute-single-use-symbol-in-node.Post, is-replaced-reads.Asked, is-replaced-reads.Learnt, substitute-single-use-symbol-behind-first-below t, substitute-single-use-symbol-behind-first.Post, of-links-reads.Asked, of-links-reads.Learnt)
     (substitute-single-use-symbol-in-expression-at t)
     substitute-single-use-symbol-in-expression.Post
+    substitute-single-use-symbol-in-expression-Inv-loop
+    substitute-single-use-symbol-in-expression-μ-loop
     (substitute-single-use-symbol-in-expression-behind-links-requires t)
     (substitute-single-use-symbol-in-expression-substitute-single-use-symbol-in-node-requires t)
+    (substitute-single-use-symbol-in-expression-is-replaced-requires t)
+    (substitute-single-use-symbol-in-expression-loop-holds t)
+    (substitute-single-use-symbol-in-expression-sub-i t)
+    (substitute-single-use-symbol-in-expression-substitute-single-use-symbol-behind-first-requires
+    t)
+    (substitute-single-use-symbol-in-expression-is-replaced-requires-2 t)
+    (substitute-single-use-symbol-in-expression-loop-less t)
+    (substitute-single-use-symbol-in-expression-loop-again t)
     (substitute-single-use-symbol-in-expression-of-links-requires t)
     (substitute-single-use-symbol-in-expression-same-length t)
     (substitute-single-use-symbol-in-expression-returns t))
