@@ -87,12 +87,12 @@ pub(crate) fn link_plan(n: NodeRecord, s: Sought) -> Plan
     }
 }
 
-// A link that is gone down: one whose only child it is, or whose first child has children.
+// Whether the search goes down through a link: it has one child, or its first child has children.
 fn goes_down(n: NodeRecord, first: NodeRecord) -> bool {
     (n.children == 1) | !(first.children == 0)
 }
 
-// The first node from `at` on that isn't gone down.
+// The first node from `at` on that the search doesn't go down through.
 pub(crate) fn behind_links(nodes: &[u8], at: NodeId, s: Sought) -> NodeId
     requires { ⌜ Searchable (now nodes) (at .0) ⌝ }
     ensures { λ r. ⌜ LinksTo (now (nodes .entry)) s (at .0) (r .0) ⌝ }
