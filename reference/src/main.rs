@@ -14,10 +14,8 @@ fn main() -> ExitCode {
     exit_code(run)
 }
 
-fn run() -> Result<(), String> {
-    let arguments: Vec<String> = std::env::args().skip(1).collect();
-    let arguments: Vec<&str> = arguments.iter().map(String::as_str).collect();
-    match arguments[..] {
+fn run(arguments: &[&str]) -> Result<(), String> {
+    match *arguments {
         ["check", directory] => no_difference(check_all(Path::new(directory), FULL)),
         ["check", "--short", directory] => no_difference(check_all(Path::new(directory), SHORT)),
         ["write", directory] => write_all(Path::new(directory)),

@@ -10,7 +10,7 @@ use Rattle.records.specs.Tree.{Node, Tree, Trees, node, none, more, count, reco
 use Rattle.records.specs.File.{one}
 use Rattle.records.specs.declared.layout.NameFacts.{NameFacts}
 use Rattle.records.specs.declared.layout.NodeRecord.{NodeRecord}
-use Rattle.records.proofs.Tests.{both, every-parts, every-more, clash}
+use Rattle.records.proofs.Tests.{both, every-parts, every-more, one-most, clash}
 use Rattle.walk.specs.Shape.{cleared}
 use Rattle.walk.specs.Substitute.{at, preserveIndirectAccess}
 use Rattle.preservation.proofs.Tests.{one-off, one-not}
@@ -90,17 +90,13 @@ module _ {v : ℕ} {r : Tree} (fits : narrow r ≡ true) where
 abbrev pub wide : Tree → ℕ
 wide t = one (not (narrow t))
 
-most-one : (b : Bool) → one b ≤ 1
-most-one true = omega arith
-most-one false = omega arith
-
 never-wider : (x y : Bool) → (x ≡ true → y ≡ true) → one (not y) ≤ one (not x)
-never-wider false y h = most-one (not y)
+never-wider false y h = one-most (not y)
 never-wider true true h = omega arith
 never-wider true false h = clash false refl (h refl)
 
 once-wider : (x y z : Bool) → (x ≡ true → y ≡ true → z ≡ true) → one (not z) ≤ one (not x) + one (not y)
-once-wider false y z h = let a = most-one (not z) in omega (arith, a)
+once-wider false y z h = let a = one-most (not z) in omega (arith, a)
 once-wider true y z h = let a = never-wider y z (h refl) in omega (arith, a)
 
 pub wide-light : (names : List NameFacts) → Light names wide

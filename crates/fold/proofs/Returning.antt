@@ -12,7 +12,7 @@ use Rattle.records.specs.File.{File, headerFor, fileLength, read, print}
 use Rattle.records.specs.Refusal.{refusal, roomWanted}
 use Rattle.records.specs.declared.layout.Header.{Header}
 use Rattle.statements.specs.Fold.{withStatements, foldedFile, foldFile, Returned, refused, accepted, foldBytes}
-use Rattle.roundtrip.proofs.Accepted.{Accepted as Passed, accepted as rows-passed, has-header, has-length}
+use Rattle.roundtrip.proofs.Accepted.{Accepted as Passed, accepted as rows-passed, has-length}
 use Rattle.roundtrip.proofs.PrintedFile.{printed-length}
 use Rattle.acceptance.proofs.Limits.{Lower, Within, limits-parts}
 use Rattle.acceptance.proofs.Acceptance.{lower, result-accepted}
@@ -28,13 +28,17 @@ use Rattle.folding.specs.Folds.{FoldsFile}
 use Rattle.fold.specs.Answer.{Numbers, numbers, numbersOf, laidOver}
 
 -- A file that is refused.
-pub refused-numbers : (bytes : List ℕ) (room number : ℕ) → number ≡ refusal bytes room → (number ≡ 0 → ⊥) → numbers (Refused number) ≡ numbersOf (foldBytes bytes room)
+pub returns-refused : (bytes : List ℕ) (room number : ℕ) (output : List ℕ) → number ≡ refusal bytes room → 0 < number → (numbers (Refused number) ≡ numbersOf (foldBytes bytes room)) × (output ≡ laidOver (foldBytes bytes room) output)
 unfolding foldBytes refused
-refused-numbers bytes room number e n = rw (← e, ne-eqb number 0 n) refl
+returns-refused bytes room number output e p = rw (← e, ne-eqb number 0 (λ z. omega (arith, z, p))) (refl, refl)
 
-pub refused-output : (bytes : List ℕ) (room number : ℕ) (output : List ℕ) → number ≡ refusal bytes room → (number ≡ 0 → ⊥) → output ≡ laidOver (foldBytes bytes room) output
-unfolding foldBytes refused
-refused-output bytes room number output e n = rw (← e, ne-eqb number 0 n) refl
+-- A file that no row refuses.
+pub none-refuses : (bytes : List ℕ) (room number : ℕ) → number ≡ refusal bytes room → number ≡ 0 → refusal bytes room ≡ 0
+none-refuses bytes room number e z = sym e ∙ z
+
+-- the result of an accepted file is accepted, beside what else is known
+pub with-acceptance : {A B : Type 0} (bytes : List ℕ) (room : ℕ) → A × B → A × (B × (refusal bytes room ≡ 0 → refusal (foldBytes bytes room .result) room ≡ 0))
+with-acceptance bytes room p = (p .0, (p .1, λ e. result-accepted bytes room e))
 
 -- the counts of the tables
 abbrev pub countsOf : Totals → Counts
@@ -47,9 +51,6 @@ module _ (bytes : List ℕ) (room : ℕ) (e : refusal bytes room ≡ 0) where
 
   abbrev folded : File
   folded = foldFile (read bytes) .file
-
-  pub long-header : 24 ≤ length bytes
-  long-header = has-header rows .0
 
   pub long-file : (h : Header) → h ≡ headerOf bytes → length bytes ≡ fileLength h
   long-file h q = has-length rows ∙ ap fileLength (sym q)

@@ -5,6 +5,7 @@ ghost use lib.ListN.{length};
 ghost use Rattle.records.specs.Record.{headerOf};
 ghost use Rattle.records.specs.Refusal.{refusal as refusalOf};
 ghost use Rattle.statements.specs.Fold.{foldBytes};
+ghost use Rattle.refusal.specs.Passing.{HeaderPasses};
 ghost use Rattle.folding.specs.State.{mostNodes, Long};
 ghost use Rattle.fold.specs.Answer.{numbers, numbersOf, laidOver};
 use folding::in_order::fold_statements;
@@ -12,7 +13,8 @@ use records::layout::Header;
 use records::layout::header_of;
 use records::number::size;
 use refusal::answer::number_of;
-use refusal::check::refusal;
+use refusal::check::check_records;
+use refusal::check::header_refusal;
 use result::header::Counts;
 use result::put_result;
 
@@ -49,15 +51,19 @@ fn fold_over(
     Folded::Written(length, t.folds)
 }
 
-// Tables of a small file, which are sooner cleared: 240 nodes, 120 declarators and statements.
+// Rows 5 to 11 of a file whose header passes; then the fold over tables of a small file, which are sooner cleared: 240 nodes,
+// 120 declarators and statements.
 fn fold_small(file: &[u8], h: Header, output: &mut [u8]) -> Folded
-    requires { ⌜ refusalOf (now file) (length (now output)) ≡ 0 ⌝ }
-    requires { ⌜ h ≡ headerOf (now file) ⌝ }
+    requires { ⌜ HeaderPasses (now file) h ⌝ }
     requires { ⌜ mostNodes h ≤ 240 ⌝ }
     requires { ⌜ h .statements ≤ 120 ⌝ }
     ensures { λ r. ⌜ numbers r ≡ numbersOf (foldBytes (now (file .entry)) (length (now (output .entry)))) ⌝ }
     ensures { λ _. ⌜ now (output .exit) ≡ laidOver (foldBytes (now (file .entry)) (length (now (output .entry)))) (now (output .entry)) ⌝ }
 {
+    let number = number_of(check_records(file, h, output.len()));
+    if number > 0 {
+        return Folded::Refused(number);
+    }
     let mut nodes = [0u8; 3840];
     let mut declarators = [0u8; 480];
     let mut starts = [0usize; 120];
@@ -73,13 +79,16 @@ fn fold_small(file: &[u8], h: Header, output: &mut [u8]) -> Folded
     )
 }
 
-// Tables of the limits: 3,000 nodes, 500 declarators and statements.
+// The same over tables of the limits: 3,000 nodes, 500 declarators and statements.
 fn fold_large(file: &[u8], h: Header, output: &mut [u8]) -> Folded
-    requires { ⌜ refusalOf (now file) (length (now output)) ≡ 0 ⌝ }
-    requires { ⌜ h ≡ headerOf (now file) ⌝ }
+    requires { ⌜ HeaderPasses (now file) h ⌝ }
     ensures { λ r. ⌜ numbers r ≡ numbersOf (foldBytes (now (file .entry)) (length (now (output .entry)))) ⌝ }
     ensures { λ _. ⌜ now (output .exit) ≡ laidOver (foldBytes (now (file .entry)) (length (now (output .entry)))) (now (output .entry)) ⌝ }
 {
+    let number = number_of(check_records(file, h, output.len()));
+    if number > 0 {
+        return Folded::Refused(number);
+    }
     let mut nodes = [0u8; 48000];
     let mut declarators = [0u8; 2000];
     let mut starts = [0usize; 500];
@@ -95,34 +104,27 @@ fn fold_large(file: &[u8], h: Header, output: &mut [u8]) -> Folded
     )
 }
 
-// Over the tables that the counts of the file ask for.
-fn fold_accepted(file: &[u8], output: &mut [u8]) -> Folded
-    requires { ⌜ refusalOf (now file) (length (now output)) ≡ 0 ⌝ }
-    ensures { λ r. ⌜ numbers r ≡ numbersOf (foldBytes (now (file .entry)) (length (now (output .entry)))) ⌝ }
-    ensures { λ _. ⌜ now (output .exit) ≡ laidOver (foldBytes (now (file .entry)) (length (now (output .entry)))) (now (output .entry)) ⌝ }
-{
-    let h = header_of(file);
-    let nodes = size(h.nodes) + 2 * size(h.declarators);
-    let statements = size(h.statements);
-    let small = (nodes <= 240) & (statements <= 120);
-    if small {
-        return fold_small(file, h, output);
-    }
-    fold_large(file, h, output)
-}
-
 // Folds the record file `file` and lays the result down at the start of `output`; a refusal leaves `output` as it is, and so
 // it is with every byte past the result. What is returned and written is the definition `foldBytes`, of which demand 3 is
 // proved (`demand/proofs/Demand3.antt`): the run of the result is the run of the file. A file is refused before any table is
-// made.
+// made. `fold_large` is called in two places, so that the compiler keeps it a function of its own: only a large file then
+// takes the stack of the large tables.
 pub fn fold(file: &[u8], output: &mut [u8]) -> Folded
     ensures { λ r. ⌜ numbers r ≡ numbersOf (foldBytes (now (file .entry)) (length (now (output .entry)))) ⌝ }
     ensures { λ _. ⌜ now (output .exit) ≡ laidOver (foldBytes (now (file .entry)) (length (now (output .entry)))) (now (output .entry)) ⌝ }
     ensures { λ _. ⌜ (refusalOf (now (file .entry)) (length (now (output .entry))) ≡ 0 → refusalOf (foldBytes (now (file .entry)) (length (now (output .entry))) .result) (length (now (output .entry))) ≡ 0) ⌝ }
 {
-    let number = number_of(refusal(file, output.len()));
-    if number == 0 {
-        return fold_accepted(file, output);
+    let row = number_of(header_refusal(file));
+    if row > 0 {
+        return Folded::Refused(row);
     }
-    Folded::Refused(number)
+    let h = header_of(file);
+    let nodes = size(h.nodes) + 2 * size(h.declarators);
+    if nodes > 240 {
+        return fold_large(file, h, output);
+    }
+    if h.statements > 120 {
+        return fold_large(file, h, output);
+    }
+    fold_small(file, h, output)
 }

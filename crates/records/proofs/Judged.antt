@@ -1,5 +1,5 @@
 -- Row 7's tests of a node in the order of the code: the record, then its flags. Assumes nothing.
-use mathlib.Core.Path.{_≡_, refl, sym, _∙_}
+use mathlib.Core.Path.{_≡_, refl, sym, ap, _∙_}
 use mathlib.Core.Bool.{Bool, true, false, _&&_, _||_, not, and-comm, and-true}
 use Prim.Native.Nat.{ℕ}
 use lib.Dec.{eqb, ltb, leb}
@@ -41,3 +41,8 @@ module _ (names nameFlags : ℕ) (n : NodeRecord) where
   pub unflagged-judged : {r : Bool} → goodNodeOf names nameFlags n ≡ (r && flagged nameFlags n) → n .flags ≡ 0 → r ≡ goodNodeOf names nameFlags n
   unfolding goodFlags
   unflagged-judged {r} e none = sym (e ∙ rw none (and-true r))
+
+  -- a node that is marked, and has no other flag
+  pub marked-judged : (r m : Bool) → goodNodeOf names nameFlags n ≡ (r && flagged nameFlags n) → n .flags ≡ 1 → m ≡ mayMark nameFlags n → (r && m) ≡ goodNodeOf names nameFlags n
+  unfolding goodFlags mayMark
+  marked-judged r m e one z = sym (e ∙ rw one (ap (λ x. r && x) (sym z)))

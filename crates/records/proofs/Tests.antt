@@ -2,9 +2,11 @@
 use mathlib.Core.Path.{_≡_, refl, sym, ap, ap₂, _∙_}
 use mathlib.Core.Bool.{Bool, true, false, _&&_, _||_, and-assoc, true≢false, false≢true}
 use mathlib.Core.List.{List, [], _∷_, _++_}
-use Prim.Native.Nat.{ℕ, _+_}
+use Prim.Native.Nat.{ℕ, _+_, _≤_}
+use native.Mathlib.Omega.{arith}
 use lib.ListN.{take, drop, take-append-drop}
 use Rattle.records.specs.Records.{every, everyFrom}
+use Rattle.records.specs.File.{one}
 
 -- both of two tests that hold together
 pub both : (a b : Bool) → (a && b) ≡ true → (a ≡ true) × (b ≡ true)
@@ -25,6 +27,11 @@ all-three a b c h = let p = both (a && b) c h in let q = both a b (p .0) in (q .
 pub neither : (a b : Bool) → (a || b) ≡ false → (a ≡ false) × (b ≡ false)
 neither true b h = absurd (true≢false h)
 neither false b h = (refl, h)
+
+-- a test counts for 1 at most
+pub one-most : (b : Bool) → one b ≤ 1
+one-most true = omega arith
+one-most false = omega arith
 
 -- no test both holds and fails
 pub clash : {A : Type 0} (b : Bool) → b ≡ false → b ≡ true → A

@@ -147,7 +147,7 @@ fn record_is_good(n: NodeRecord, names: u16, fewest: &[u16], most: &[u16]) -> bo
     false
 }
 
-// A node by itself. Most have no flags, and the flags of a name are asked for a node that has some.
+// A node by itself. Most have no flags, or are marked and no more; the flags of a name are asked for a node that has some.
 fn node_is_good(file: &[u8], names: u16, n: NodeRecord, fewest: &[u16], most: &[u16]) -> bool
     requires { ⌜ 24 + 12 * names ≤ length (now file) ⌝ }
     requires { ⌜ now fewest ≡ fewestOf ⌝ }
@@ -157,8 +157,11 @@ fn node_is_good(file: &[u8], names: u16, n: NodeRecord, fewest: &[u16], most: &[
     if n.flags == 0 {
         return record_is_good(n, names, fewest, most);
     }
-    let marked = n.flags / 1 % 2 == 1;
     let name_flags = flags_of(file, names, NameId(n.label));
+    if n.flags == 1 {
+        return record_is_good(n, names, fewest, most) & may_mark(n, name_flags);
+    }
+    let marked = n.flags / 1 % 2 == 1;
     record_is_good(n, names, fewest, most)
         & (flags_are_good(n) & (!marked | may_mark(n, name_flags)))
 }

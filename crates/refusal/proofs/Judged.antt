@@ -18,11 +18,11 @@ use Rattle.records.specs.declared.layout.NodeRecord.{NodeRecord}
 use Rattle.records.specs.declared.layout.DeclaratorRecord.{DeclaratorRecord}
 use Rattle.records.specs.declared.layout.StatementRecord.{StatementRecord}
 use Rattle.records.proofs.Series.{records-length}
+use Rattle.records.proofs.Tests.{one-most}
 use Rattle.trees.specs.Stack.{entries, entryAt, rootStands}
 use Rattle.uses.specs.Tally.{Tally}
 use Rattle.trees.proofs.Rows.{entries-length, roots-entries}
 use Rattle.trees.proofs.Stacks.{entries-part}
-use Rattle.uses.proofs.Uses.{one-most}
 
 -- no more trees than records
 initializers-most : (ds : List DeclaratorRecord) → initializers ds ≤ length ds

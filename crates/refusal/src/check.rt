@@ -1,12 +1,15 @@
-// The refusal table, in its order: `refusal`, the public call, has the rows of the header, and `check` the others.
+// The refusal table, in its order: `refusal`, the public call, tests the rows of the header by `header_refusal`, and the others
+// by `check`.
 ghost use mathlib.Core.Path.{_≡_};
-ghost use Prim.Native.Nat.{_≤_, _<_};
+ghost use Prim.Native.Nat.{ℕ, _≤_, _<_};
 ghost use lib.ListN.{length};
+ghost use Rattle.records.specs.Record.{headerOf};
 ghost use Rattle.records.specs.Refusal.{refusal as refusalOf};
 ghost use Rattle.refusal.specs.Number.{number};
 ghost use Rattle.refusal.specs.Passing.{HeaderPasses};
 ghost use Rattle.uses.specs.Tally.{Tally};
 use crate::answer::Refusal;
+use crate::answer::number_of;
 use crate::file_rows::counts_are_bad;
 use crate::file_rows::facts_are_bad;
 use crate::file_rows::names_are_declared_twice;
@@ -42,7 +45,9 @@ fn check(
     requires { ⌜ Tally (λ k. 0) (now seen) ⌝ }
     ensures { λ r. ⌜ number r ≡ refusalOf (now (file .entry)) room ⌝ }
 {
-    if facts_are_bad(file, h) {
+    let bad = facts_are_bad(file, h);
+    let short = room_is_short(file, h, room);
+    if bad {
         return Refusal::BadFacts;
     }
     let script = script_totals(file, h);
@@ -61,7 +66,7 @@ fn check(
     if counts_are_bad(file, h, reads, targets) {
         return Refusal::BadCounts;
     }
-    if room_is_short(file, h, room) {
+    if short {
         return Refusal::NoRoom;
     }
     Refusal::Accepted
@@ -79,8 +84,8 @@ fn check_over(file: &[u8], h: Header, room: usize, stack: &mut [u16]) -> Refusal
     check(file, h, room, stack, &mut reads, &mut targets, &mut seen)
 }
 
-// The stack is made where the header passes: a small one, which is sooner cleared, for a small file.
-fn check_records(file: &[u8], h: Header, room: usize) -> Refusal
+// Rows 5 to 11. The stack is made where the header passes: a small one, which is sooner cleared, for a small file.
+pub fn check_records(file: &[u8], h: Header, room: usize) -> Refusal
     requires { ⌜ HeaderPasses (now file) h ⌝ }
     ensures { λ r. ⌜ number r ≡ refusalOf (now (file .entry)) room ⌝ }
 {
@@ -92,9 +97,10 @@ fn check_records(file: &[u8], h: Header, room: usize) -> Refusal
     check_over(file, h, room, &mut stack)
 }
 
-// Whether a file and a room for its result are accepted, or the row of the table that refuses them. Any bytes.
-pub fn refusal(file: &[u8], room: usize) -> Refusal
-    ensures { λ r. ⌜ number r ≡ refusalOf (now (file .entry)) room ⌝ }
+// Rows 1 to 4, which no room changes: the row of the header that refuses a file, or `Accepted` where none does. Any bytes.
+pub fn header_refusal(file: &[u8]) -> Refusal
+    ensures { λ r. ⌜ (number r ≡ 0 → HeaderPasses (now (file .entry)) (headerOf (now (file .entry)))) ⌝ }
+    ensures { λ r. ⌜ (0 < number r → (room : ℕ) → number r ≡ refusalOf (now (file .entry)) room) ⌝ }
 {
     if not_a_script(file) {
         return Refusal::NotAScript;
@@ -111,5 +117,16 @@ pub fn refusal(file: &[u8], room: usize) -> Refusal
     if other_length(file, h) {
         return Refusal::OtherLength;
     }
-    check_records(file, h, room)
+    Refusal::Accepted
+}
+
+// Whether a file and a room for its result are accepted, or the row of the table that refuses them. Any bytes.
+pub fn refusal(file: &[u8], room: usize) -> Refusal
+    ensures { λ r. ⌜ number r ≡ refusalOf (now (file .entry)) room ⌝ }
+{
+    let r = header_refusal(file);
+    if number_of(r) > 0 {
+        return r;
+    }
+    check_records(file, header_of(file), room)
 }

@@ -14,8 +14,6 @@ use Rattle.records.specs.declared.layout.Header.{Header}
 use Rattle.records.proofs.Series.{records-length}
 use Rattle.roundtrip.proofs.Formats.{node-reads}
 use Rattle.roundtrip.proofs.Series.{bytesOf-length}
-use Rattle.result.specs.declared.header.Counts.{Counts}
-use Rattle.result.specs.Header.{resultHeader}
 
 module _ (out₀ : List ℕ) where
   -- a part of len bytes behind what is laid down
@@ -59,8 +57,8 @@ module _ (out₀ nodes declarators statements : List ℕ) (n d s : ℕ) where
       put-two out₀ nodePart (take (4 * d) declarators) (take (4 * s) statements) (12 * n) (4 * d) (4 * s) node-part-length
       (length-take-le (4 * d) declarators h) e (p ∙ rw sub-zero) (q ∙ rw sub-zero)
 
--- the part table of the result's header: its nodes begin where the file's do
-pub nodes-begin : (h : Header) (counts : Counts) {header : Header} (parts : List ℕ) → header ≡ resultHeader h counts
+-- where the nodes begin, by the part table of a header
+pub nodes-begin : {header g : Header} (parts : List ℕ) → header ≡ g
     → parts ≡ namesStart header ∷ scopesStart header ∷ framesStart header ∷ nodesStart header ∷ declaratorsStart header ∷ statementsStart header ∷ fileLength header ∷ []
-    → getD parts 3 0 ≡ nodesStart h
-nodes-begin h counts parts e p = ap (λ (l : List ℕ). getD l 3 0) p ∙ ap (λ (h : Header). nodesStart h) e
+    → getD parts 3 0 ≡ nodesStart g
+nodes-begin parts e p = ap (λ (l : List ℕ). getD l 3 0) p ∙ ap (λ (h : Header). nodesStart h) e

@@ -1,6 +1,6 @@
 -- A branch in which the search ended, and the other one.
 use Prim.Native.Nat.{_+_}
-use mathlib.Core.Bool.{Bool, true, false, cond}
+use mathlib.Core.Bool.{true, false}
 use mathlib.Core.Path.{_≡_, refl, sym, ap, _∙_}
 use Rattle.records.proofs.Tests.{clash}
 use Rattle.plans.specs.declared.walked.Answer.{Answer}

@@ -1,9 +1,9 @@
 -- A row on the way: what the search of the trees that are left does gives what the search of all does.
-use Prim.Native.Nat.{ℕ, _+_, _-_, _≤_}
+use Prim.Native.Nat.{ℕ, _+_, _-_}
 use native.Mathlib.Omega.{arith}
 use mathlib.Core.Bool.{Bool, true, false, _||_}
 use mathlib.Core.List.{List}
-use mathlib.Core.Path.{_≡_, refl, sym, ap, _∙_, subst}
+use mathlib.Core.Path.{_≡_, refl, sym, ap, subst}
 use Rattle.walk.specs.Context.{Context}
 use Rattle.walk.specs.Substitute.{next as nextPlan}
 use Rattle.plans.specs.declared.plan.Plan.{Plan}
@@ -15,6 +15,7 @@ use Rattle.plans.specs.Answers.{isPassed, isReplaced}
 use Rattle.plans.specs.Described.{Known}
 use Rattle.plans.specs.Search.{SearchableRow, Searches, SearchesRow}
 use Rattle.substitute.specs.OfNode.{gather}
+use Rattle.substitute.specs.Links.{Goes}
 use Rattle.substitute.proofs.Row.{row-both}
 use Rattle.substitute.proofs.Nodes.{others-searchable}
 
@@ -22,15 +23,9 @@ use Rattle.substitute.proofs.Nodes.{others-searchable}
 gather-none : (r : Walked) → r ≡ gather false 0 r
 gather-none r = ap (λ k. record { next = r .next; place = r .place; looks = k; answer = r .answer; effect = r .effect; indirect = r .indirect }) (omega arith)
 
-gather-both : (a b : Bool) (k m : ℕ) (r : Walked) → gather a k (gather b m r) ≡ gather (a || b) (k + m) r
+pub gather-both : (a b : Bool) (k m : ℕ) (r : Walked) → gather a k (gather b m r) ≡ gather (a || b) (k + m) r
 gather-both true b k m r = ap (λ n. record { next = r .next; place = r .place; looks = n; answer = r .answer; effect = true; indirect = r .indirect }) (omega arith)
 gather-both false b k m r = ap (λ n. record { next = r .next; place = r .place; looks = n; answer = r .answer; effect = b || r .effect; indirect = r .indirect }) (omega arith)
-
--- `left` trees from `next` on are left, in the table as it is now; the others had this effect and these looks
-pub record Goes (ctx : Context) (s : Sought) (table₀ : List ℕ) (at many : ℕ) (plan : Plan) (table : List ℕ) (next left : ℕ) (now : Plan) (effect : Bool) (looks : ℕ) : Type 0 where
-  pub row : SearchableRow table next left
-  pub seen : at + looks ≤ next
-  pub on : {table′ : List ℕ} {r : Walked} → SearchesRow ctx s table table′ next left now r → SearchesRow ctx s table₀ table′ at many plan (gather effect looks r)
 
 module _ (ctx : Context) (s : Sought) {table₀ : List ℕ} {at many : ℕ} {plan : Plan} where
   pub goes-start : SearchableRow table₀ at many → Goes ctx s table₀ at many plan table₀ at many plan false 0

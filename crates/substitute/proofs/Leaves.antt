@@ -1,12 +1,14 @@
 -- A node without children that is not the name: the search passes it or ends at it.
-use Prim.Native.Nat.{ℕ, zero, suc, _+_, _*_, _<_}
+use Prim.Native.Nat.{ℕ, zero, suc, _+_, _<_}
 use native.Mathlib.Omega.{arith}
-use mathlib.Core.Bool.{Bool, true, false, cond, _&&_, _||_, not, or-false}
+use mathlib.Core.Bool.{Bool, true, false, _&&_, _||_, not, or-false}
 use mathlib.Core.List.{List}
 use mathlib.Core.Path.{_≡_, refl, sym, ap, _∙_, subst}
 use lib.Dec.{eqb, ltb}
-use borrow.Author.Tests.{eqb-true, ltb-true}
-use Rattle.records.specs.Flags.{computed}
+use borrow.Author.Tests.{eqb-true, ne-eqb, ltb-true}
+use Rattle.records.specs.Flags.{marked, computed, proto}
+use Rattle.records.specs.File.{one}
+use Rattle.records.specs.Place.{isExpression}
 use Rattle.records.specs.Tree.{Node, Tree, Trees, node, none, more, count, sizes, recordOf, nodeOf}
 use Rattle.records.specs.declared.layout.NodeId.{NodeId}
 use Rattle.records.specs.declared.layout.NodeRecord.{NodeRecord}
@@ -18,21 +20,34 @@ use Rattle.walk.specs.Shape.{is, shape as shapeOf}
 use Rattle.walk.specs.Effect.{hasEffect, anyHasSideEffects}
 use Rattle.walk.specs.Unsettled.{unsettled}
 use Rattle.walk.specs.Looks.{ownLooks, looksInExpression, looksInChildren}
-use Rattle.walk.specs.Substitute.{passed, isSpecificId, mayPass, ofNode, substituteInExpression, substituteInChildren}
+use Rattle.walk.specs.Substitute.{passed, isSpecificId, substituteInExpression, substituteInChildren}
 use Rattle.plans.specs.declared.shape.Shape.{Shape}
 use Rattle.plans.specs.declared.shape.Shape.the-variants.{Constant, Identifier, Leaf}
 use Rattle.plans.specs.declared.sought.Sought.{Sought}
 use Rattle.plans.specs.declared.walked.Answer.the-variants.{Passed}
 use Rattle.plans.specs.declared.walked.Walked.{Walked}
-use Rattle.plans.specs.Shapes.{shaped, isAssignment}
+use Rattle.plans.specs.Shapes.{shaped}
 use Rattle.plans.specs.Answers.{byPassing}
 use Rattle.plans.specs.Described.{Describes}
 use Rattle.plans.specs.Passing.{reorders, stopsIn, MayPass}
 use Rattle.plans.specs.Search.{Did, passes, alone}
 use Rattle.plans.proofs.MayPass.{passBy, pass-by, pass-name, pass-settled}
-use Rattle.substitute.specs.OfNode.{isLeaf, OfLeaf}
+use Rattle.substitute.specs.OfNode.{isLeaf, movesLeaf, passesName, OfLeaf}
 use Rattle.substitute.proofs.OfNode.{node-of, of-passing}
 use Rattle.substitute.proofs.Searching.{node-is}
+
+pub or-first : (a b : Bool) → a ≡ true → (a || b) ≡ true
+or-first a b h = rw h refl
+
+pub or-second : (a b : Bool) → b ≡ true → (a || b) ≡ true
+or-second true b h = refl
+or-second false b h = h
+
+or-and : (a b c d : Bool) → a ≡ false → b ≡ d → (a || (b && c)) ≡ (d && c)
+or-and a b c d h i = rw (h, i) refl
+
+pub no-name : (k : ℕ) (b : Bool) → (k ≡ 4 → ⊥) → false ≡ (eqb k 4 && b)
+no-name k b h = rw (ne-eqb k 4 h) refl
 
 -- The shape of such a node, by the code's tests.
 constant-shape : (m : Node) → (is 1 m || is 2 m || is 27 m) ≡ true → shaped Constant ≡ shapeOf m
@@ -104,7 +119,7 @@ module _ (ctx : Context) (s : Sought) (at : NodeId) (n : NodeRecord) (own : Bool
       rw j (u, v)
   leaf-alone shape pass replacement d m (more x xs) w st z i h j c t r = absurd (omega (arith, c))
 
-  pub leaf-searched : {q : Walked} (shape : Shape) (pass : Bool) → MayPass ctx shape n s own false false pass → ((replacement : Tree) (kids : Trees) → false ≡ stopsIn ctx replacement (shaped shape) kids)
+  leaf-searched : {q : Walked} (shape : Shape) (pass : Bool) → MayPass ctx shape n s own false false pass → ((replacement : Tree) (kids : Trees) → false ≡ stopsIn ctx replacement (shaped shape) kids)
       → (isLeaf n ≡ true → shaped shape ≡ shapeOf (nodeOf n)) → q ≡ byPassing pass next own looks → OfLeaf ctx (at .0) n s q
   unfolding recordOf
   leaf-searched shape pass w st h r table e k i replacement d pre (node m kids) rest t b =
@@ -113,8 +128,8 @@ module _ (ctx : Context) (s : Sought) (at : NodeId) (n : NodeRecord) (own : Bool
       let c : count kids ≡ 0 = sym (ap (λ x. x .children) z) ∙ eqb-true (n .children) 0 (and-left (eqb (n .children) 0) (ltb (n .kind) 6 || eqb (n .kind) 27) k) in
       leaf-alone shape pass replacement d m kids w (st replacement) z (h k) (h k ∙ ap shapeOf f) (subst (λ x. isSpecificId (s .name .0) x ≡ false) f i) c t r
 
-  -- the code's three ways
-  pub leaf-passed : {q : Walked} (moves : Bool) → moves ≡ reorders s own → (eqb (n .kind) 1 || eqb (n .kind) 2 || eqb (n .kind) 27 || moves) ≡ true → q ≡ byPassing true next own looks → OfLeaf ctx (at .0) n s q
+  -- the three ways
+  leaf-passed : {q : Walked} (moves : Bool) → moves ≡ reorders s own → (eqb (n .kind) 1 || eqb (n .kind) 2 || eqb (n .kind) 27 || moves) ≡ true → q ≡ byPassing true next own looks → OfLeaf ctx (at .0) n s q
   unfolding nodeOf
   leaf-passed {q} moves w h r = by (eqb (n .kind) 1 || eqb (n .kind) 2 || eqb (n .kind) 27) refl (eqb (n .kind) 4) refl (subst (λ x. (eqb (n .kind) 1 || eqb (n .kind) 2 || eqb (n .kind) 27 || x) ≡ true) w h)
     where
@@ -123,10 +138,54 @@ module _ (ctx : Context) (s : Sought) (at : NodeId) (n : NodeRecord) (own : Bool
       by false c true i h = leaf-searched Identifier true (pass-moved-name ctx n s own h) (λ R kids. refl) (λ k. name-shape (nodeOf n) i) r
       by false c false i h = leaf-searched Leaf true (subst (MayPass ctx Leaf n s own false false) h (pass-leaf ctx n s own)) (λ R kids. refl) (λ k. other-shape n c i k) r
 
-  pub leaf-name : {q : Walked} (blocks : Bool) → eqb (n .kind) 4 ≡ true → reorders s own ≡ false → blocks ≡ unsettled ctx (n .label) → q ≡ byPassing (not blocks) next own looks → OfLeaf ctx (at .0) n s q
+  leaf-name : {q : Walked} (blocks : Bool) → eqb (n .kind) 4 ≡ true → reorders s own ≡ false → blocks ≡ unsettled ctx (n .label) → q ≡ byPassing (not blocks) next own looks → OfLeaf ctx (at .0) n s q
   unfolding nodeOf
   leaf-name blocks i m u r = leaf-searched Identifier (not blocks) (pass-kept-name ctx n s own m blocks u) (λ R kids. refl) (λ k. name-shape (nodeOf n) i) r
 
-  pub leaf-stopped : {q : Walked} → (eqb (n .kind) 1 || eqb (n .kind) 2 || eqb (n .kind) 27) ≡ false → eqb (n .kind) 4 ≡ false → reorders s own ≡ false → q ≡ byPassing false next own looks → OfLeaf ctx (at .0) n s q
+  leaf-stopped : {q : Walked} → (eqb (n .kind) 1 || eqb (n .kind) 2 || eqb (n .kind) 27) ≡ false → eqb (n .kind) 4 ≡ false → reorders s own ≡ false → q ≡ byPassing false next own looks → OfLeaf ctx (at .0) n s q
   unfolding nodeOf
   leaf-stopped c i m r = leaf-searched Leaf false (subst (MayPass ctx Leaf n s own false false) m (pass-leaf ctx n s own)) (λ R kids. refl) (λ k. other-shape n c i k) r
+
+  pub leaf-by : {q : Walked} (pass : Bool) → pass ≡ (movesLeaf n s || passesName ctx n) → q ≡ byPassing pass next own looks → OfLeaf ctx (at .0) n s q
+  leaf-by {q} pass w r = by (eqb (n .kind) 1 || eqb (n .kind) 2 || eqb (n .kind) 27 || reorders s own) refl (eqb (n .kind) 4) refl (subst (λ x. pass ≡ ((eqb (n .kind) 1 || eqb (n .kind) 2 || eqb (n .kind) 27 || reorders s x) || passesName ctx n)) (sym o) w)
+    where
+      by : (moves : Bool) → (eqb (n .kind) 1 || eqb (n .kind) 2 || eqb (n .kind) 27 || reorders s own) ≡ moves → (name : Bool) → eqb (n .kind) 4 ≡ name
+          → pass ≡ ((eqb (n .kind) 1 || eqb (n .kind) 2 || eqb (n .kind) 27 || reorders s own) || (eqb (n .kind) 4 && not (unsettled ctx (n .label)))) → OfLeaf ctx (at .0) n s q
+      by true h name i z = leaf-passed (reorders s own) refl h (r ∙ ap (λ x. byPassing x next own looks) (z ∙ or-first (eqb (n .kind) 1 || eqb (n .kind) 2 || eqb (n .kind) 27 || reorders s own) (eqb (n .kind) 4 && not (unsettled ctx (n .label))) h))
+      by false h true i z = leaf-name (unsettled ctx (n .label)) i (neither (eqb (n .kind) 1 || eqb (n .kind) 2 || eqb (n .kind) 27) (reorders s own) h .1) refl (r ∙ ap (λ x. byPassing x next own looks) (z ∙ or-and (eqb (n .kind) 1 || eqb (n .kind) 2 || eqb (n .kind) 27 || reorders s own) (eqb (n .kind) 4) (not (unsettled ctx (n .label))) true h i))
+      by false h false i z = let (c, m) = neither (eqb (n .kind) 1 || eqb (n .kind) 2 || eqb (n .kind) 27) (reorders s own) h in leaf-stopped c i m (r ∙ ap (λ x. byPassing x next own looks) (z ∙ or-and (eqb (n .kind) 1 || eqb (n .kind) 2 || eqb (n .kind) 27 || reorders s own) (eqb (n .kind) 4) (not (unsettled ctx (n .label))) false h i))
+
+-- The effect and the looks of a leaf, by its kind.
+by-kind : (P : ℕ → Type 0) → P 0 → P 1 → P 2 → P 3 → P 4 → P 5 → P 27 → (k : ℕ) → (ltb k 6 || eqb k 27) ≡ true → P k
+by-kind P p0 p1 p2 p3 p4 p5 p27 k h = at (eqb k 27) refl
+  where
+    below : (k : ℕ) → k < 6 → P k
+    below zero l = p0
+    below (suc zero) l = p1
+    below (suc (suc zero)) l = p2
+    below (suc (suc (suc zero))) l = p3
+    below (suc (suc (suc (suc zero)))) l = p4
+    below (suc (suc (suc (suc (suc zero))))) l = p5
+    below (suc (suc (suc (suc (suc (suc k)))))) l = absurd (omega (arith, l))
+
+    at : (b : Bool) → eqb k 27 ≡ b → P k
+    at true e = subst P (sym (eqb-true k 27 e)) p27
+    at false e = below k (small k h e)
+
+leaf-kind : (n : NodeRecord) → isLeaf n ≡ true → (ltb (n .kind) 6 || eqb (n .kind) 27) ≡ true
+leaf-kind n h = and-right (eqb (n .children) 0) (ltb (n .kind) 6 || eqb (n .kind) 27) h
+
+pub leaf-marked : (n : NodeRecord) → isLeaf n ≡ true → marked (n .flags) ≡ hasEffect (nodeOf n)
+unfolding nodeOf hasEffect
+leaf-marked n h = by-kind (λ k. marked (n .flags) ≡ (marked (n .flags) || eqb k 6 || eqb k 7 || eqb k 8 || eqb k 20)) off off off off off off off (n .kind) (leaf-kind n h)
+  where
+    no-more : (b : Bool) → b ≡ (b || false || false || false || false)
+    no-more true = refl
+    no-more false = refl
+
+    off : marked (n .flags) ≡ (marked (n .flags) || false || false || false || false)
+    off = no-more (marked (n .flags))
+
+pub leaf-looked : (n : NodeRecord) → isLeaf n ≡ true → one (not (eqb (n .kind) 27)) ≡ ownLooks (nodeOf n)
+unfolding nodeOf ownLooks isExpression
+leaf-looked n h = by-kind (λ k. one (not (eqb k 27)) ≡ one (ltb k 25 || eqb k 28 || eqb k 26 && computed (n .flags) && proto (n .flags))) refl refl refl refl refl refl refl (n .kind) (leaf-kind n h)

@@ -9,4 +9,6 @@ pub mod Searching
 pub mod Nodes
 pub mod Going
 pub mod Chain
+pub mod Reaching
+pub mod Moving
 pub mod LinkKinds

@@ -1,19 +1,15 @@
 -- A search makes no more looks than there are nodes.
-use Prim.Native.Nat.{ℕ, suc, _+_, _≤_}
+use Prim.Native.Nat.{ℕ, _≤_}
 use native.Mathlib.Omega.{arith}
 use mathlib.Core.Bool.{Bool, true, false, cond, _&&_, _||_}
 use Rattle.records.specs.Flags.{computed, proto}
 use Rattle.records.specs.Place.{isExpression}
 use Rattle.records.specs.Tree.{Node, Tree, Trees, node, none, more, size, sizes}
-use Rattle.records.specs.File.{one}
+use Rattle.records.proofs.Tests.{one-most}
 use Rattle.walk.specs.Context.{Context}
 use Rattle.walk.specs.Shape.{is, shape}
 use Rattle.walk.specs.Substitute.{Plan, next, plan, substituteInExpression}
 use Rattle.walk.specs.Looks.{ownLooks, entersFirst, goesOn, looksInExpression, looksInChildren}
-
-one-most : (b : Bool) → one b ≤ 1
-one-most true = omega arith
-one-most false = omega arith
 
 own-most : (n : Node) → ownLooks n ≤ 1
 unfolding ownLooks

@@ -1,22 +1,22 @@
 -- The search of a node from that of its children, and what the calls of the search ask of each other.
-use Prim.Native.Nat.{ℕ, suc, _+_, _*_, _-_, _≤_, _<_}
+use Prim.Native.Nat.{ℕ, _+_, _*_, _-_, _≤_}
 use native.Mathlib.Omega.{arith}
-use mathlib.Core.Bool.{Bool, true, false, cond, _&&_, _||_, not}
+use mathlib.Core.Bool.{Bool, true, false, cond, _&&_, not}
 use mathlib.Core.List.{List, [], _++_}
 use mathlib.Core.Path.{_≡_, refl, sym, ap, _∙_, subst}
 use lib.ListN.{length}
 use lib.Dec.{eqb}
 use borrow.Author.Tests.{eqb-true, not-true}
 use Rattle.records.specs.Record.{nodeAt}
-use Rattle.records.specs.Tree.{Node, Tree, Trees, node, none, more, count, size, sizes, recordOf, nodeOf}
+use Rattle.records.specs.Tree.{Tree, Trees, node, none, more, count, size, sizes, nodeOf}
 use Rattle.records.specs.declared.layout.NodeId.{NodeId}
 use Rattle.records.specs.declared.layout.NodeRecord.{NodeRecord}
-use Rattle.records.proofs.Tests.{both, and-left, and-right, clash}
-use Rattle.table.specs.Laid.{laid, laids, At, TreeAt, RowStands}
+use Rattle.records.proofs.Tests.{both, clash}
+use Rattle.table.specs.Laid.{laid, laids, At}
 use Rattle.table.proofs.Laid.{size-least, room, first, beyond, whole}
 use Rattle.walk.specs.Context.{Context}
-use Rattle.walk.specs.Substitute.{Answer as RuleAnswer, replaced, stopped, passed, next, inOrder, inBranches, byPlan, ofNode, isSpecificId, substituteInExpression, substituteInChildren}
-use Rattle.walk.specs.Looks.{ownLooks, entersFirst, goesOn, looksInExpression, looksInChildren}
+use Rattle.walk.specs.Substitute.{Answer as RuleAnswer, replaced, stopped, passed, next, inOrder, inBranches, byPlan, isSpecificId, substituteInExpression, substituteInChildren}
+use Rattle.walk.specs.Looks.{ownLooks, goesOn, looksInExpression, looksInChildren}
 use Rattle.plans.specs.declared.begin.Begun.{Begun}
 use Rattle.plans.specs.declared.plan.Plan.{Plan}
 use Rattle.plans.specs.declared.plan.Plan.the-variants.{All, First, Nothing, Test, Branches}
@@ -24,13 +24,13 @@ use Rattle.plans.specs.declared.sought.Sought.{Sought}
 use Rattle.plans.specs.declared.walked.Walked.{Walked}
 use Rattle.plans.specs.Shapes.{planned}
 use Rattle.plans.specs.Plans.{isNothing}
-use Rattle.plans.specs.Answers.{isPassed, isReplaced}
-use Rattle.plans.specs.Described.{Describes, Known}
-use Rattle.plans.specs.Search.{bareNames, allBareNames, Searchable, SearchableRow, Did, passes, stops, replaces, alone, Searches, SearchesRow}
-use Rattle.plans.specs.Begins.{Begins, BeginsAt}
+use Rattle.plans.specs.Answers.{isReplaced}
+use Rattle.plans.specs.Described.{Known}
+use Rattle.plans.specs.Search.{Searchable, SearchableRow, Did, passes, stops, replaces, alone, Searches, SearchesRow}
+use Rattle.plans.specs.Begins.{BeginsAt}
 use Rattle.substitute.specs.OfNode.{behind, OfNode}
 use Rattle.plans.proofs.Behind.{all-bare}
-use Rattle.substitute.proofs.Row.{wrong, wrong-off, enters}
+use Rattle.substitute.proofs.Row.{wrong-off, enters}
 use Rattle.substitute.proofs.Looking.{looks-most, all-looks-most}
 use Rattle.substitute.proofs.Searching.{bare-node, node-is}
 use Rattle.substitute.proofs.OfNode.{node-of}

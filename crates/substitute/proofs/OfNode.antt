@@ -1,15 +1,15 @@
 -- What the search does of a node, from what it did of its children.
-use Prim.Native.Nat.{ℕ, suc, _+_, _*_}
+use Prim.Native.Nat.{ℕ, _+_, _*_}
 use native.Mathlib.Omega.{arith}
-use mathlib.Core.Bool.{Bool, true, false, cond, _||_, or-false}
-use mathlib.Core.List.{List, [], _++_, append-assoc}
+use mathlib.Core.Bool.{Bool, true, false, _||_, or-false}
+use mathlib.Core.List.{List, _++_, append-assoc}
 use mathlib.Core.Path.{_≡_, refl, sym, ap, _∙_, subst}
-use lib.ListN.{length, length-append, set}
-use Rattle.records.specs.Tree.{Node, Tree, Trees, node, none, more, count, size, sizes, recordOf, nodeOf}
+use lib.ListN.{length-append, set}
+use Rattle.records.specs.Tree.{Node, Tree, Trees, node, none, more, count, sizes, recordOf, nodeOf}
 use Rattle.records.specs.declared.layout.NodeRecord.{NodeRecord}
 use Rattle.table.specs.Table.{workBytes}
 use Rattle.table.specs.Laid.{laid, laids, At, TreeAt}
-use Rattle.table.proofs.Laid.{outside, flagged, withFlags, work-length}
+use Rattle.table.proofs.Laid.{outside, flagged, work-length}
 use Rattle.walk.specs.Context.{Context}
 use Rattle.walk.specs.Shape.{shape as shapeOf, cleared}
 use Rattle.walk.specs.Effect.{hasEffect, mayHaveSideEffects, anyHasSideEffects}
@@ -17,8 +17,6 @@ use Rattle.walk.specs.Looks.{ownLooks}
 use Rattle.walk.specs.Substitute.{Answer as RuleAnswer, replaced, stopped, passed, inOrder, mayPass, ofNode}
 use Rattle.plans.specs.declared.shape.Shape.{Shape}
 use Rattle.plans.specs.declared.sought.Sought.{Sought}
-use Rattle.plans.specs.declared.walked.Answer.{Answer}
-use Rattle.plans.specs.declared.walked.Answer.the-variants.{Replaced, Stopped, Passed}
 use Rattle.plans.specs.declared.walked.Walked.{Walked}
 use Rattle.plans.specs.Shapes.{shaped}
 use Rattle.plans.specs.Answers.{isPassed, byPassing}

@@ -1,34 +1,33 @@
 -- The search of a row, from what it did of the first tree and of the others.
-use Prim.Native.Nat.{ℕ, _+_, _*_, _-_}
+use Prim.Native.Nat.{ℕ, _+_, _-_}
 use native.Mathlib.Omega.{arith}
-use mathlib.Core.Bool.{Bool, true, false, cond, _||_, or-false}
+use mathlib.Core.Bool.{Bool, true, false, cond, or-false}
 use mathlib.Core.List.{List, [], _++_, append-assoc}
 use mathlib.Core.Path.{_≡_, refl, sym, ap, _∙_, subst}
-use lib.ListN.{length}
-use Rattle.records.specs.Tree.{Tree, Trees, node, none, more, count, size, sizes, joined}
+use Rattle.records.specs.Tree.{Tree, Trees, none, more, count, size, sizes, joined}
 use Rattle.records.specs.declared.layout.NodeId.{NodeId}
 use Rattle.records.specs.declared.layout.NodeRecord.{NodeRecord}
 use Rattle.records.proofs.Tests.{clash}
 use Rattle.roundtrip.proofs.Rows.{count-joined, sizes-joined}
 use Rattle.table.specs.Table.{workBytes}
-use Rattle.table.specs.Laid.{laid, laids, At, TreeAt}
-use Rattle.table.proofs.Laid.{back, beyond, first, whole, laid-length, laid-split, laids-split, laids-joined}
+use Rattle.table.specs.Laid.{laid, laids, At}
+use Rattle.table.proofs.Laid.{back, beyond, first, whole, laids-split, laids-joined}
 use Rattle.effects.specs.Passes.{Passes}
 use Rattle.walk.specs.Context.{Context}
 use Rattle.walk.specs.Effect.{mayHaveSideEffects, anyHasSideEffects}
-use Rattle.walk.specs.Substitute.{Answer as RuleAnswer, replaced, stopped, passed, Plan as RulePlan, all, first as firstAlone, nothing, test, branches, next, inOrder, inBranches, byPlan, substituteInExpression, substituteInChildren}
+use Rattle.walk.specs.Substitute.{Answer as RuleAnswer, replaced, stopped, passed, all, nothing, branches, next, inOrder, inBranches, byPlan, substituteInExpression, substituteInChildren}
 use Rattle.walk.specs.Looks.{entersFirst, goesOn, isReplaced as isPlaced, isPassed as isOpen, looksInExpression, looksInChildren}
 use Rattle.plans.specs.declared.plan.Plan.{Plan}
 use Rattle.plans.specs.declared.plan.Plan.the-variants.{All, First, Nothing, Test, Branches}
 use Rattle.plans.specs.declared.sought.Sought.{Sought}
 use Rattle.plans.specs.declared.walked.Answer.{Answer}
-use Rattle.plans.specs.declared.walked.Answer.the-variants.{Replaced, Stopped, Passed}
+use Rattle.plans.specs.declared.walked.Answer.the-variants.{Stopped, Passed}
 use Rattle.plans.specs.declared.walked.Walked.{Walked}
 use Rattle.plans.specs.Shapes.{planned}
 use Rattle.plans.specs.Plans.{isNothing, isBranches}
 use Rattle.plans.specs.Answers.{isPassed, isReplaced, Either}
 use Rattle.plans.specs.Described.{Describes}
-use Rattle.plans.specs.Search.{bareNames, allBareNames, Found, Did, passes, stops, replaces, placed, alone, Searches, SearchesRow}
+use Rattle.plans.specs.Search.{allBareNames, Found, Did, passes, stops, replaces, placed, alone, Searches, SearchesRow}
 use Rattle.plans.specs.Begins.{Behind}
 use Rattle.plans.proofs.Behind.{all-bare, behind-first, found-behind}
 

@@ -1,45 +1,35 @@
 -- The search of a tree, from what the code did.
-use Prim.Native.Nat.{ℕ, zero, suc, _+_, _*_, _-_, _≤_, _<_}
+use Prim.Native.Nat.{ℕ, suc, _+_, _*_, _-_, _≤_}
 use native.Mathlib.Omega.{arith}
-use mathlib.Core.Bool.{Bool, true, false, cond, _&&_, _||_, not}
+use mathlib.Core.Bool.{Bool, true, false, _&&_, _||_, not}
 use mathlib.Core.List.{List, [], _++_}
 use mathlib.Core.Path.{_≡_, refl, sym, ap, _∙_, subst}
 use lib.ListN.{length}
 use lib.Dec.{eqb}
 use borrow.Author.Tests.{eqb-true}
 use Rattle.records.specs.Record.{nodeAt}
-use Rattle.records.specs.Tree.{Node, Tree, Trees, node, none, more, count, size, sizes, recordOf, nodeOf}
+use Rattle.records.specs.Tree.{Node, Tree, Trees, node, none, more, count, sizes, recordOf, nodeOf}
 use Rattle.records.specs.File.{firstTree}
 use Rattle.records.specs.Place.{root, isExpression}
 use Rattle.records.specs.declared.layout.NodeId.{NodeId}
 use Rattle.records.specs.declared.layout.NodeRecord.{NodeRecord}
-use Rattle.records.proofs.Tests.{both, and-left, and-right, clash}
+use Rattle.records.proofs.Tests.{both, and-left, clash}
 use Rattle.table.specs.Table.{workBytes}
-use Rattle.table.specs.Laid.{laid, laids, At, TreeAt, Stands, RowStands}
-use Rattle.table.proofs.Laid.{room, room-node, inside, first, beyond, whole, node-at, laids-split, work-length}
+use Rattle.table.specs.Laid.{laid, laids, TreeAt, Stands, RowStands}
+use Rattle.table.proofs.Laid.{room-node, first, node-at, laids-split, work-length}
 use Rattle.walk.specs.Context.{Context}
-use Rattle.walk.specs.Shape.{is, Shape as RuleShape, steps, never, shape, cleared}
-use Rattle.walk.specs.Substitute.{Answer as RuleAnswer, replaced, stopped, passed, Plan as RulePlan, all, tag, next, at as atPosition, preserveIndirectAccess, asTag, inOrder, inBranches, byPlan, ofNode, isSpecificId, isMemberTag, keepsCallee, keepsIndirect, plan, planFor, mayPass, substituteInExpression, substituteInChildren}
+use Rattle.walk.specs.Shape.{is, shape, cleared}
+use Rattle.walk.specs.Substitute.{replaced, tag, next, at as atPosition, preserveIndirectAccess, asTag, inOrder, byPlan, ofNode, isSpecificId, isMemberTag, keepsCallee, keepsIndirect, plan, planFor, substituteInExpression, substituteInChildren}
 use Rattle.walk.specs.Looks.{ownLooks, entersFirst, goesOn, isPassed as isOpen, looksInExpression, looksInChildren}
 use Rattle.plans.specs.declared.begin.Begun.{Begun}
-use Rattle.plans.specs.declared.plan.Plan.{Plan}
-use Rattle.plans.specs.declared.plan.Plan.the-variants.{All, First, Nothing, Test, Branches}
 use Rattle.plans.specs.declared.sought.Sought.{Sought}
-use Rattle.plans.specs.declared.walked.Answer.{Answer}
-use Rattle.plans.specs.declared.walked.Answer.the-variants.{Replaced, Stopped, Passed}
+use Rattle.plans.specs.declared.walked.Answer.the-variants.{Replaced}
 use Rattle.plans.specs.declared.walked.Walked.{Walked}
-use Rattle.plans.specs.Shapes.{shaped, planned}
-use Rattle.plans.specs.Plans.{isNothing}
-use Rattle.plans.specs.Answers.{isPassed, isReplaced}
-use Rattle.plans.specs.Described.{Describes, Known}
-use Rattle.plans.specs.Search.{bareNames, allBareNames, Searchable, SearchableRow, Found, Did, passes, stops, replaces, placed, alone, Searches, SearchesRow}
-use Rattle.plans.specs.Begins.{Behind, Begins, BeginsAt}
-use Rattle.substitute.specs.OfNode.{OfNode}
+use Rattle.plans.specs.Search.{bareNames, allBareNames, Searchable, SearchableRow, Found, Did, replaces, alone, Searches}
+use Rattle.plans.specs.Begins.{BeginsAt}
 use Rattle.plans.proofs.Beginning.{tag-steps}
 use Rattle.plans.proofs.Behind.{all-bare}
-use Rattle.substitute.proofs.Row.{wrong, wrong-off}
 use Rattle.substitute.proofs.OfNode.{node-of}
-use Rattle.substitute.proofs.Looking.{looks-most, all-looks-most}
 
 -- What the code may ask of a searchable tree and row.
 pub searchable-stands : {table : List ℕ} {at : ℕ} → Searchable table at → Stands table at

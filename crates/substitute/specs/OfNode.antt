@@ -1,6 +1,6 @@
 -- What is made of a node by what the search of its children did.
 use Prim.Native.Nat.{ℕ, _+_, _*_}
-use mathlib.Core.Bool.{Bool, true, false, _&&_, _||_}
+use mathlib.Core.Bool.{Bool, true, false, _&&_, _||_, not}
 use mathlib.Core.List.{List, _++_}
 use mathlib.Core.Path.{_≡_}
 use lib.Dec.{eqb, ltb}
@@ -10,13 +10,15 @@ use Rattle.records.specs.declared.layout.NodeRecord.{NodeRecord}
 use Rattle.table.specs.Table.{workBytes}
 use Rattle.walk.specs.Context.{Context}
 use Rattle.walk.specs.Shape.{shape as shapeOf}
+use Rattle.walk.specs.Effect.{hasEffect}
+use Rattle.walk.specs.Unsettled.{unsettled}
 use Rattle.walk.specs.Looks.{ownLooks}
 use Rattle.walk.specs.Substitute.{Answer as RuleAnswer, isSpecificId, mayPass, ofNode}
 use Rattle.plans.specs.declared.sought.Sought.{Sought}
 use Rattle.plans.specs.declared.walked.Walked.{Walked}
 use Rattle.plans.specs.Answers.{isPassed}
 use Rattle.plans.specs.Described.{Describes}
-use Rattle.plans.specs.Passing.{stopsIn}
+use Rattle.plans.specs.Passing.{reorders, stopsIn}
 use Rattle.plans.specs.Search.{Did, alone, Searches}
 
 -- a result behind trees that were passed: with their effect, and with their looks too
@@ -49,3 +51,14 @@ isLeaf n = eqb (n .children) 0 && (ltb (n .kind) 6 || eqb (n .kind) 27)
 -- what the search did of such a node that is not the name
 abbrev pub OfLeaf : Context → ℕ → NodeRecord → Sought → Walked → Type 0
 OfLeaf ctx at n s r = (table : List ℕ) → n ≡ nodeAt table (16 * at) → isLeaf n ≡ true → isSpecificId (s .name .0) (nodeOf n) ≡ false → Searches ctx s table table at r
+
+-- it is passed whatever its name is; and as a settled name
+abbrev pub movesLeaf : NodeRecord → Sought → Bool
+movesLeaf n s = (eqb (n .kind) 1 || eqb (n .kind) 2 || eqb (n .kind) 27) || reorders s (hasEffect (nodeOf n))
+
+abbrev pub passesName : Context → NodeRecord → Bool
+passesName ctx n = eqb (n .kind) 4 && not (unsettled ctx (n .label))
+
+-- a link that is passed where its children are, if it or one of them has this effect: no spread and no property
+abbrev pub movesLink : NodeRecord → Sought → Bool → Bool
+movesLink n s effect = not (eqb (n .kind) 25 || eqb (n .kind) 26) && reorders s effect

@@ -9,20 +9,29 @@ ghost use Rattle.walk.specs.Context.{contextOf};
 ghost use Rattle.plans.specs.Described.{Known};
 ghost use Rattle.plans.specs.Plans.{isNothing};
 ghost use Rattle.plans.specs.Search.{Searchable, SearchableRow, Searches, SearchesRow};
-ghost use Rattle.substitute.specs.Links.{SomeFirstSearched, SearchesBehind};
+ghost use Rattle.substitute.specs.Links.{SomeChildSearched, SearchesBehind};
+use crate::descent::Before;
+use crate::descent::behind_links;
+use crate::descent::leaves_before;
+use crate::descent::of_links;
 use crate::leaf::is_leaf;
+use crate::leaf::leaf_effect;
+use crate::leaf::leaf_looks;
+use crate::leaf::moves_leaf;
 use crate::leaf::of_leaf;
-use crate::links::behind_links;
+use crate::links::is_link;
 use crate::links::link_plan;
-use crate::links::of_links;
 use crate::node::is_specific_id;
+use crate::node::moves_link;
 use crate::node::of_answered;
 use crate::node::of_passed;
+use crate::node::own_looks;
 use crate::outcome::either;
 use crate::outcome::found;
 use crate::outcome::gathered;
 use crate::outcome::passed;
 use crate::outcome::stopped;
+use effects::has_effect;
 use effects::pass_row;
 use plans::begin::begin;
 use plans::plan::Plan;
@@ -59,50 +68,55 @@ pub fn substitute_single_use_symbol_in_expression(
     requires { ⌜ Known s ⌝ }
     ensures { λ r. ⌜ Searches (contextOf (read (now (file .entry)))) s (now (nodes .entry)) (now (nodes .exit)) (at .0) r ⌝ }
 {
-    let inner = behind_links(nodes, at, s);
-    let mut w = substitute_single_use_symbol_in_node(file, h, nodes, inner, s);
+    let inner = behind_links(file, h, nodes, at, s);
+    let mut w = walk_node(file, h, nodes, inner, s);
     let mut i = inner.0;
     let answer = w.answer;
     let mut replaced = is_replaced(answer);
     while !replaced & (at.0 < i) {
-        i -= 1;
-        w = substitute_single_use_symbol_behind_first(file, h, nodes, NodeId(i), s, w);
+        let b = leaves_before(nodes, NodeId(i));
+        w = behind_child(file, h, nodes, b, NodeId(i), s, w);
+        let link = b.link;
+        i = link.0;
         let answer = w.answer;
         replaced = is_replaced(answer);
     }
     of_links(nodes, at, NodeId(i), w)
 }
 
-// The search of a link, from that of its first child, where the name was not found.
-fn substitute_single_use_symbol_behind_first(
+// The search of a link, from that of its child `child`, where the name was not found; the leaves before that child are passed.
+fn behind_child(
     file: &[u8],
     h: Header,
     nodes: &mut [u8],
-    at: NodeId,
+    b: Before,
+    child: NodeId,
     s: Sought,
-    first: Walked,
+    w: Walked,
 ) -> Walked
     requires { ⌜ h ≡ headerOf (now file) ⌝ }
     requires { ⌜ length (now file) ≡ fileLength h ⌝ }
     requires { ⌜ Known s ⌝ }
-    requires { ⌜ SomeFirstSearched (contextOf (read (now file))) s (now nodes) (at .0) first ⌝ }
-    ensures { λ r. ⌜ SearchesBehind (contextOf (read (now (file .entry)))) s (now (nodes .entry)) (now (nodes .exit)) (at .0) first r ⌝ }
+    requires { ⌜ SomeChildSearched (contextOf (read (now file))) s (now nodes) b (child .0) w ⌝ }
+    ensures { λ r. ⌜ SearchesBehind (contextOf (read (now (file .entry)))) s (now (nodes .entry)) (now (nodes .exit)) b (child .0) w r ⌝ }
 {
+    let at = b.link;
     let n = work_node(nodes, at);
-    let left = size(n.children) - 1;
-    let answer = first.answer;
-    let end = first.next;
+    let left = size(n.children) + at.0 - child.0;
+    let answer = w.answer;
+    let end = w.next;
     if !is_passed(answer) {
         let others = pass_row(nodes, end, left);
         let last = others.next;
-        return of_answered(nodes, at, n, false, stopped(last, first.looks));
+        let children = gathered(b.effect, b.looks, stopped(last, w.looks));
+        return of_answered(nodes, at, n, false, children);
     }
     if left == 0 {
-        return of_passed(file, h, n, false, s, false, first);
+        return of_passed(file, h, n, false, s, false, gathered(b.effect, b.looks, w));
     }
     let plan = next_plan(link_plan(n, s));
-    let rest = substitute_single_use_symbol_in_list(file, h, nodes, end, left, plan, s);
-    let children = gathered(first.effect, first.looks, rest);
+    let rest = walk_list(file, h, nodes, end, left, plan, s);
+    let children = gathered(b.effect | w.effect, b.looks + w.looks, rest);
     let last = rest.answer;
     if is_passed(last) {
         return of_passed(file, h, n, false, s, false, children);
@@ -111,13 +125,7 @@ fn substitute_single_use_symbol_behind_first(
 }
 
 // The search of a node that is no link.
-fn substitute_single_use_symbol_in_node(
-    file: &[u8],
-    h: Header,
-    nodes: &mut [u8],
-    at: NodeId,
-    s: Sought,
-) -> Walked
+fn walk_node(file: &[u8], h: Header, nodes: &mut [u8], at: NodeId, s: Sought) -> Walked
     requires { ⌜ h ≡ headerOf (now file) ⌝ }
     requires { ⌜ length (now file) ≡ fileLength h ⌝ }
     requires { ⌜ Searchable (now nodes) (at .0) ⌝ }
@@ -142,7 +150,7 @@ fn substitute_single_use_symbol_in_node(
         }
         return of_answered(nodes, at, n, g.effect, child);
     }
-    let children = substitute_single_use_symbol_in_list(file, h, nodes, next, g.left, plan, s);
+    let children = walk_list(file, h, nodes, next, g.left, plan, s);
     let answer = children.answer;
     if is_passed(answer) {
         return of_passed(file, h, n, g.stops, s, g.effect, children);
@@ -150,14 +158,8 @@ fn substitute_single_use_symbol_in_node(
     of_answered(nodes, at, n, g.effect, children)
 }
 
-// The same of a child in a list: one without children needs no call.
-fn substitute_single_use_symbol_in_item(
-    file: &[u8],
-    h: Header,
-    nodes: &mut [u8],
-    at: NodeId,
-    s: Sought,
-) -> Walked
+// The same of a child in a list: a leaf needs no call, and neither does a link whose only child is a leaf that is passed.
+fn walk_item(file: &[u8], h: Header, nodes: &mut [u8], at: NodeId, s: Sought) -> Walked
     requires { ⌜ h ≡ headerOf (now file) ⌝ }
     requires { ⌜ length (now file) ≡ fileLength h ⌝ }
     requires { ⌜ Searchable (now nodes) (at .0) ⌝ }
@@ -168,11 +170,20 @@ fn substitute_single_use_symbol_in_item(
     if is_leaf(n) & !is_specific_id(n, s) {
         return of_leaf(file, h, at, n, s);
     }
+    if (n.children == 1) & is_link(n, s) {
+        let child = work_node(nodes, NodeId(at.0 + 1));
+        let effect = has_effect(n) | leaf_effect(child);
+        let passes = is_leaf(child) & !is_specific_id(child, s) & moves_leaf(child, s);
+        if passes & moves_link(n, s, effect) {
+            let looks = own_looks(n) + leaf_looks(child);
+            return passed(NodeId(at.0 + 2), effect, looks);
+        }
+    }
     substitute_single_use_symbol_in_expression(file, h, nodes, at, s)
 }
 
 // The search of the `many` trees from `at` on, by a plan.
-fn substitute_single_use_symbol_in_list(
+fn walk_list(
     file: &[u8],
     h: Header,
     nodes: &mut [u8],
@@ -198,7 +209,7 @@ fn substitute_single_use_symbol_in_list(
             let end = all.next;
             return gathered(effect, looks, passed(end, all.effect, 0));
         }
-        let first = substitute_single_use_symbol_in_item(file, h, nodes, next, s);
+        let first = walk_item(file, h, nodes, next, s);
         let answer = first.answer;
         let end = first.next;
         if is_replaced(answer) {
@@ -206,15 +217,7 @@ fn substitute_single_use_symbol_in_list(
         }
         if !is_passed(answer) {
             if is_branches(now) {
-                let others = substitute_single_use_symbol_in_list(
-                    file,
-                    h,
-                    nodes,
-                    end,
-                    left - 1,
-                    Plan::All,
-                    s,
-                );
+                let others = walk_list(file, h, nodes, end, left - 1, Plan::All, s);
                 return gathered(effect, looks, either(first, others));
             }
             let others = pass_row(nodes, end, left - 1);

@@ -1,16 +1,17 @@
 // A node without children.
 ghost use mathlib.Core.Path.{_≡_};
-ghost use Prim.Native.Nat.{_+_, _<_};
+ghost use mathlib.Core.Bool.{true};
+ghost use Prim.Native.Nat.{_+_, _≤_, _<_};
 ghost use lib.ListN.{length};
 ghost use Rattle.records.specs.Record.{headerOf};
+ghost use Rattle.records.specs.Tree.{nodeOf};
 ghost use Rattle.records.specs.File.{fileLength, read};
 ghost use Rattle.walk.specs.Context.{contextOf};
-ghost use Rattle.substitute.specs.OfNode.{isLeaf, OfLeaf};
-use crate::node::own_looks;
+ghost use Rattle.walk.specs.Effect.{hasEffect};
+ghost use Rattle.walk.specs.Looks.{ownLooks};
+ghost use Rattle.substitute.specs.OfNode.{isLeaf, movesLeaf, passesName, OfLeaf};
 use crate::outcome::by_passing;
 use crate::outcome::passed;
-use crate::outcome::stopped;
-use effects::has_effect;
 use plans::pass::can_reorder;
 use plans::sought::Sought;
 use plans::walked::Walked;
@@ -18,6 +19,7 @@ use records::layout::Header;
 use records::layout::NameId;
 use records::layout::NodeId;
 use records::layout::NodeRecord;
+use records::number::one;
 use reorder::unsettled::identifier_read_blocks_reorder;
 
 // A node without children, of a kind that never has any.
@@ -27,6 +29,39 @@ pub(crate) fn is_leaf(n: NodeRecord) -> bool
     (n.children == 0) & ((n.kind < 6) | (n.kind == 27))
 }
 
+// Whether such a node has an effect, and the looks at it.
+pub(crate) fn leaf_effect(n: NodeRecord) -> bool
+    ensures { λ r. ⌜ (isLeaf n ≡ true → r ≡ hasEffect (nodeOf n)) ⌝ }
+{
+    n.flags / 1 % 2 == 1
+}
+
+pub(crate) fn leaf_looks(n: NodeRecord) -> usize
+    ensures { λ r. ⌜ (isLeaf n ≡ true → r ≡ ownLooks (nodeOf n)) × (r ≤ 1) ⌝ }
+{
+    one(!(n.kind == 27))
+}
+
+// Such a node that is passed whatever its name is: a constant, or one that may change places with the tree to place.
+pub(crate) fn moves_leaf(n: NodeRecord, s: Sought) -> bool
+    ensures { λ r. ⌜ (isLeaf n ≡ true → r ≡ movesLeaf n s) ⌝ }
+{
+    let constant = (n.kind == 1) | (n.kind == 2) | (n.kind == 27);
+    constant | can_reorder(s, leaf_effect(n))
+}
+
+// A name that is settled.
+pub(crate) fn passes_name(file: &[u8], h: Header, n: NodeRecord) -> bool
+    requires { ⌜ h ≡ headerOf (now file) ⌝ }
+    requires { ⌜ length (now file) ≡ fileLength h ⌝ }
+    ensures { λ r. ⌜ r ≡ passesName (contextOf (read (now (file .entry)))) n ⌝ }
+{
+    if n.kind == 4 {
+        return !identifier_read_blocks_reorder(file, h, NameId(n.label));
+    }
+    false
+}
+
 // Such a node, if it is not the name.
 pub(crate) fn of_leaf(file: &[u8], h: Header, at: NodeId, n: NodeRecord, s: Sought) -> Walked
     requires { ⌜ h ≡ headerOf (now file) ⌝ }
@@ -34,17 +69,12 @@ pub(crate) fn of_leaf(file: &[u8], h: Header, at: NodeId, n: NodeRecord, s: Soug
     requires { ⌜ at .0 + 1 < 18446744073709551616 ⌝ }
     ensures { λ r. ⌜ OfLeaf (contextOf (read (now (file .entry)))) (at .0) n s r ⌝ }
 {
-    let own = has_effect(n);
-    let looks = own_looks(n);
+    let effect = leaf_effect(n);
+    let looks = leaf_looks(n);
     let next = NodeId(at.0 + 1);
-    let constant = (n.kind == 1) | (n.kind == 2) | (n.kind == 27);
-    let identifier = n.kind == 4;
-    if constant | can_reorder(s, own) {
-        return passed(next, own, looks);
+    if moves_leaf(n, s) {
+        return passed(next, effect, looks);
     }
-    if identifier {
-        let blocks = identifier_read_blocks_reorder(file, h, NameId(n.label));
-        return by_passing(!blocks, next, own, looks);
-    }
-    stopped(next, looks)
+    let passes = passes_name(file, h, n);
+    by_passing(passes, next, effect, looks)
 }

@@ -9,10 +9,11 @@ ghost use Rattle.walk.specs.Context.{contextOf};
 ghost use Rattle.walk.specs.Looks.{ownLooks};
 ghost use Rattle.walk.specs.Shape.{cleared};
 ghost use Rattle.walk.specs.Substitute.{isSpecificId};
-ghost use Rattle.substitute.specs.OfNode.{OfPassed, OfAnswered};
+ghost use Rattle.substitute.specs.OfNode.{movesLink, OfPassed, OfAnswered};
 use crate::outcome::by_passing;
 use crate::outcome::gathered;
 use effects::has_effect;
+use plans::pass::can_reorder;
 use plans::pass::may_pass;
 use plans::shape::shape_of;
 use plans::sought::Sought;
@@ -50,6 +51,13 @@ pub(crate) fn is_specific_id(n: NodeRecord, s: Sought) -> bool
     ensures { λ r. ⌜ r ≡ isSpecificId (s .name .0) (nodeOf n) ⌝ }
 {
     (n.kind == 4) & (n.label == s.name.0)
+}
+
+// A link that is passed where its children are: `effect` is whether it has an effect, or one of them.
+pub(crate) fn moves_link(n: NodeRecord, s: Sought, effect: bool) -> bool
+    ensures { λ r. ⌜ r ≡ movesLink n s effect ⌝ }
+{
+    !((n.kind == 25) | (n.kind == 26)) & can_reorder(s, effect)
 }
 
 // A node whose children are passed, `a`; `effect` is whether one that was passed before them has an effect.

@@ -13,11 +13,8 @@ use Rattle.records.specs.File.{one}
 use Rattle.records.specs.Tree.{Node, Tree, Trees, node, none, more, firsts, others, nodeOf, grown, rowOf}
 use Rattle.records.specs.Count.{targetName, firstTarget, nameRead, usesIn, usesOf, readsOf, targetsOf}
 use Rattle.records.specs.declared.layout.NodeRecord.{NodeRecord}
+use Rattle.records.proofs.Tests.{one-most}
 use Rattle.uses.specs.Tally.{headTarget, recordRead}
-
-pub one-most : (b : Bool) → one b ≤ 1
-one-most true = omega arith
-one-most false = omega arith
 
 module _ (named : Node → Trees → ℕ) (name : ℕ) where
   uses-split : (k : ℕ) (ts : Trees) → usesOf named name (firsts k ts) + usesOf named name (others k ts) ≡ usesOf named name ts

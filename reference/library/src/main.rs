@@ -23,10 +23,8 @@ fn main() -> ExitCode {
     exit_code(run)
 }
 
-fn run() -> Result<(), String> {
-    let arguments: Vec<String> = std::env::args().skip(1).collect();
-    let arguments: Vec<&str> = arguments.iter().map(String::as_str).collect();
-    match arguments[..] {
+fn run(arguments: &[&str]) -> Result<(), String> {
+    match *arguments {
         ["compare"] => families::compare_all(FULL),
         ["compare", "--short"] => families::compare_all(SHORT),
         ["compare", seed] => families::compare_all(FULL.seeded(seed)?),

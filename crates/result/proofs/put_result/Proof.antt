@@ -21,13 +21,13 @@ array-read-end : tie.Need-array-read-end
 array-read-end c = search needs
 
 put-facts-requires : tie.Need-put-facts-requires
-put-facts-requires c κs = omega (arith, nodes-begin ((c .before .before .before .before .before .before .before .before) .args .h) ((c .before .before .before .before .before .before .before .before) .args .counts) ((c .before .part-offsets) .result) ((c .before .before .result-header) .ensures) ((c .before .part-offsets) .ensures), (c .before .before .before .before .before .before .before .before) .pre)
+put-facts-requires c κs = omega (arith, nodes-begin ((c .before .part-offsets) .result) ((c .before .before .result-header) .ensures) ((c .before .part-offsets) .ensures), (c .before .before .before .before .before .before .before .before) .pre)
 
 sub-put-tables : tie.Need-sub-put-tables
-sub-put-tables c = omega (arith, nodes-begin ((c .before .before .before .before .before .before .before .before .before .before .before) .args .h) ((c .before .before .before .before .before .before .before .before .before .before .before) .args .counts) ((c .before .before .before .before .part-offsets) .result) ((c .before .before .before .before .before .result-header) .ensures) ((c .before .before .before .before .part-offsets) .ensures), (c .before .before .before .before .before .before .before .before .before .before .before) .pre)
+sub-put-tables c = omega (arith, nodes-begin ((c .before .before .before .before .part-offsets) .result) ((c .before .before .before .before .before .result-header) .ensures) ((c .before .before .before .before .part-offsets) .ensures), (c .before .before .before .before .before .before .before .before .before .before .before) .pre)
 
 part-put-tables-start : tie.Need-part-put-tables-start
-part-put-tables-start c = omega (arith, nodes-begin ((c .before .before .before .before .before .before .before .before .before .before .before) .args .h) ((c .before .before .before .before .before .before .before .before .before .before .before) .args .counts) ((c .before .before .before .before .part-offsets) .result) ((c .before .before .before .before .before .result-header) .ensures) ((c .before .before .before .before .part-offsets) .ensures), (c .before .before .before .before .before .before .before .before .before .before .before) .pre)
+part-put-tables-start c = omega (arith, nodes-begin ((c .before .before .before .before .part-offsets) .result) ((c .before .before .before .before .before .result-header) .ensures) ((c .before .before .before .before .part-offsets) .ensures), (c .before .before .before .before .before .before .before .before .before .before .before) .pre)
 
 part-put-tables-end : tie.Need-part-put-tables-end
 part-put-tables-end c = search needs
@@ -36,7 +36,7 @@ put-tables-requires : tie.Need-put-tables-requires
 put-tables-requires c κs =
     let out = (c .before .before .before .put-facts) .last .0 in
     let end = getD ((c .before .before .before .before .before .part-offsets) .result) 3 0 in
-    ((c .before .before .before .before .before .before .before .before .before .before .before .before) .pre .1 .1 .1 .0, omega (arith, nodes-begin ((c .before .before .before .before .before .before .before .before .before .before .before .before) .args .h) ((c .before .before .before .before .before .before .before .before .before .before .before .before) .args .counts) ((c .before .before .before .before .before .part-offsets) .result) ((c .before .before .before .before .before .before .result-header) .ensures) ((c .before .before .before .before .before .part-offsets) .ensures), (c .before .before .before .before .before .before .before .before .before .before .before .before) .pre .1 .1 .1 .1, (c .before .before .before .put-facts) .kept .0, mid-len end (length out) out (omega arith)))
+    omega (arith, nodes-begin ((c .before .before .before .before .before .part-offsets) .result) ((c .before .before .before .before .before .before .result-header) .ensures) ((c .before .before .before .before .before .part-offsets) .ensures), (c .before .before .before .before .before .before .before .before .before .before .before .before) .pre .1 .1 .1, (c .before .before .before .put-facts) .kept .0, mid-len end (length out) out (omega arith))
 
 array-read-result : tie.Need-array-read-result
 array-read-result c = search needs

@@ -1,10 +1,8 @@
 -- `refusal::check::check` meets its contract. Assumes nothing.
-use mathlib.Core.Path.{_≡_, refl, sym, ap, _∙_}
-use native.Mathlib.Omega.{arith}
+use mathlib.Core.Path.{sym, _∙_}
 use native.Mathlib.Nat.{le-trans}
 use Rattle.records.specs.Refusal.{refusal}
 use Rattle.refusal.proofs.Limits.{names-fit, length-said, file-declarators-fit}
-use borrow.Author.Needs.{needs}
 use borrow.Author.Needs.{needs}
 use Rattle.refusal.proofs.check.check.Statement.{statement}
 use Rattle.refusal.proofs.check.check.Tie as tie
@@ -12,36 +10,39 @@ use Rattle.refusal.proofs.check.check.Tie as tie
 facts-are-bad-requires : tie.Need-facts-are-bad-requires
 facts-are-bad-requires c κs = (((c .before .before .before .before .before) .pre .0) .is, length-said ((c .before .before .before .before .before) .args .file .now) ((c .before .before .before .before .before) .args .h) (((c .before .before .before .before .before) .pre .0) .measured))
 
+room-is-short-requires : tie.Need-room-is-short-requires
+room-is-short-requires c κs = (((c .before .before .before .before .before .before) .pre .0) .is, length-said ((c .before .before .before .before .before .before) .args .file .now) ((c .before .before .before .before .before .before) .args .h) (((c .before .before .before .before .before .before) .pre .0) .measured))
+
 returns : tie.Need-returns
 unfolding refusal
-returns c = rw (((c .before .before .before .before .before .before .before) .pre .0) .script, ← ((c .before .before .before .before .before .before .before) .pre .0) .is, ((c .before .before .before .before .before .before .before) .pre .0) .version, ((c .before .before .before .before .before .before .before) .pre .0) .limits, ((c .before .before .before .before .before .before .before) .pre .0) .measured, ← (c .before .facts-are-bad) .ensures, (c .if1) .taken)
+returns c = rw (((c .before .before .before .before .before .before .before .before) .pre .0) .script, ← ((c .before .before .before .before .before .before .before .before) .pre .0) .is, ((c .before .before .before .before .before .before .before .before) .pre .0) .version, ((c .before .before .before .before .before .before .before .before) .pre .0) .limits, ((c .before .before .before .before .before .before .before .before) .pre .0) .measured, ← (c .before .before .facts-are-bad) .ensures, (c .if1) .taken)
 
 script-totals-requires : tie.Need-script-totals-requires
-script-totals-requires c κs = (((c .before .before .before .before .before .before .before) .pre .0) .is, length-said ((c .before .before .before .before .before .before .before) .args .file .now) ((c .before .before .before .before .before .before .before) .args .h) (((c .before .before .before .before .before .before .before) .pre .0) .measured))
+script-totals-requires c κs = (((c .before .before .before .before .before .before .before .before) .pre .0) .is, length-said ((c .before .before .before .before .before .before .before .before) .args .file .now) ((c .before .before .before .before .before .before .before .before) .args .h) (((c .before .before .before .before .before .before .before .before) .pre .0) .measured))
 
 returns-2 : tie.Need-returns-2
 unfolding refusal
-returns-2 c = rw (((c .before .before .before .before .before .before .before .before .before) .pre .0) .script, ← ((c .before .before .before .before .before .before .before .before .before) .pre .0) .is, ((c .before .before .before .before .before .before .before .before .before) .pre .0) .version, ((c .before .before .before .before .before .before .before .before .before) .pre .0) .limits, ((c .before .before .before .before .before .before .before .before .before) .pre .0) .measured, ← (c .before .before .before .facts-are-bad) .ensures, (c .before .before .if1) .left, ← ((c .before .script-totals) .ensures) .0, (c .if2) .taken)
+returns-2 c = rw (((c .before .before .before .before .before .before .before .before .before .before) .pre .0) .script, ← ((c .before .before .before .before .before .before .before .before .before .before) .pre .0) .is, ((c .before .before .before .before .before .before .before .before .before .before) .pre .0) .version, ((c .before .before .before .before .before .before .before .before .before .before) .pre .0) .limits, ((c .before .before .before .before .before .before .before .before .before .before) .pre .0) .measured, ← (c .before .before .before .before .facts-are-bad) .ensures, (c .before .before .if1) .left, ← ((c .before .script-totals) .ensures) .0, (c .if2) .taken)
 
 nodes-are-bad-requires : tie.Need-nodes-are-bad-requires
-nodes-are-bad-requires c κs = (((c .before .before .before .before .before .before .before .before .before) .pre .0) .is, length-said ((c .before .before .before .before .before .before .before .before .before) .args .file .now) ((c .before .before .before .before .before .before .before .before .before) .args .h) (((c .before .before .before .before .before .before .before .before .before) .pre .0) .measured))
+nodes-are-bad-requires c κs = (((c .before .before .before .before .before .before .before .before .before .before) .pre .0) .is, length-said ((c .before .before .before .before .before .before .before .before .before .before) .args .file .now) ((c .before .before .before .before .before .before .before .before .before .before) .args .h) (((c .before .before .before .before .before .before .before .before .before .before) .pre .0) .measured))
 
 returns-3 : tie.Need-returns-3
 unfolding refusal
-returns-3 c = rw (((c .before .before .before .before .before .before .before .before .before .before .before) .pre .0) .script, ← ((c .before .before .before .before .before .before .before .before .before .before .before) .pre .0) .is, ((c .before .before .before .before .before .before .before .before .before .before .before) .pre .0) .version, ((c .before .before .before .before .before .before .before .before .before .before .before) .pre .0) .limits, ((c .before .before .before .before .before .before .before .before .before .before .before) .pre .0) .measured, ← (c .before .before .before .before .before .facts-are-bad) .ensures, (c .before .before .before .before .if1) .left, ← ((c .before .before .before .script-totals) .ensures) .0, (c .before .before .if2) .left, ← (c .before .nodes-are-bad) .ensures, (c .if3) .taken)
+returns-3 c = rw (((c .before .before .before .before .before .before .before .before .before .before .before .before) .pre .0) .script, ← ((c .before .before .before .before .before .before .before .before .before .before .before .before) .pre .0) .is, ((c .before .before .before .before .before .before .before .before .before .before .before .before) .pre .0) .version, ((c .before .before .before .before .before .before .before .before .before .before .before .before) .pre .0) .limits, ((c .before .before .before .before .before .before .before .before .before .before .before .before) .pre .0) .measured, ← (c .before .before .before .before .before .before .facts-are-bad) .ensures, (c .before .before .before .before .if1) .left, ← ((c .before .before .before .script-totals) .ensures) .0, (c .before .before .if2) .left, ← (c .before .nodes-are-bad) .ensures, (c .if3) .taken)
 
 trees-are-bad-requires : tie.Need-trees-are-bad-requires
-trees-are-bad-requires c κs = (((c .before .before .before .before .before .before .before .before .before .before .before .before) .pre .0) .is, (length-said ((c .before .before .before .before .before .before .before .before .before .before .before .before) .args .file .now) ((c .before .before .before .before .before .before .before .before .before .before .before .before) .args .h) (((c .before .before .before .before .before .before .before .before .before .before .before .before) .pre .0) .measured), (((c .before .before .before .before .script-totals) .ensures) .1, (c .before .before .before .before .before .before .before .before .before .before .before .before) .pre .1 .0)))
+trees-are-bad-requires c κs = (((c .before .before .before .before .before .before .before .before .before .before .before .before .before) .pre .0) .is, (length-said ((c .before .before .before .before .before .before .before .before .before .before .before .before .before) .args .file .now) ((c .before .before .before .before .before .before .before .before .before .before .before .before .before) .args .h) (((c .before .before .before .before .before .before .before .before .before .before .before .before .before) .pre .0) .measured), (((c .before .before .before .before .script-totals) .ensures) .1, (c .before .before .before .before .before .before .before .before .before .before .before .before .before) .pre .1 .0)))
 
 same-length : tie.Need-same-length
 same-length c = search needs
 
 returns-4 : tie.Need-returns-4
 unfolding refusal
-returns-4 c = rw (((c .before .before .before .before .before .before .before .before .before .before .before .before .before .before .before .before) .pre .0) .script, ← ((c .before .before .before .before .before .before .before .before .before .before .before .before .before .before .before .before) .pre .0) .is, ((c .before .before .before .before .before .before .before .before .before .before .before .before .before .before .before .before) .pre .0) .version, ((c .before .before .before .before .before .before .before .before .before .before .before .before .before .before .before .before) .pre .0) .limits, ((c .before .before .before .before .before .before .before .before .before .before .before .before .before .before .before .before) .pre .0) .measured, ← (c .before .before .before .before .before .before .before .before .before .before .facts-are-bad) .ensures, (c .before .before .before .before .before .before .before .before .before .if1) .left, ← ((c .before .before .before .before .before .before .before .before .script-totals) .ensures) .0, (c .before .before .before .before .before .before .before .if2) .left, ← (c .before .before .before .before .before .before .nodes-are-bad) .ensures, (c .before .before .before .before .before .if3) .left, ← (c .before .before .before .trees-are-bad) .ensures, (c .if4) .taken)
+returns-4 c = rw (((c .before .before .before .before .before .before .before .before .before .before .before .before .before .before .before .before .before) .pre .0) .script, ← ((c .before .before .before .before .before .before .before .before .before .before .before .before .before .before .before .before .before) .pre .0) .is, ((c .before .before .before .before .before .before .before .before .before .before .before .before .before .before .before .before .before) .pre .0) .version, ((c .before .before .before .before .before .before .before .before .before .before .before .before .before .before .before .before .before) .pre .0) .limits, ((c .before .before .before .before .before .before .before .before .before .before .before .before .before .before .before .before .before) .pre .0) .measured, ← (c .before .before .before .before .before .before .before .before .before .before .before .facts-are-bad) .ensures, (c .before .before .before .before .before .before .before .before .before .if1) .left, ← ((c .before .before .before .before .before .before .before .before .script-totals) .ensures) .0, (c .before .before .before .before .before .before .before .if2) .left, ← (c .before .before .before .before .before .before .nodes-are-bad) .ensures, (c .before .before .before .before .before .if3) .left, ← (c .before .before .before .trees-are-bad) .ensures, (c .if4) .taken)
 
 names-are-declared-twice-requires : tie.Need-names-are-declared-twice-requires
-names-are-declared-twice-requires c κs = (((c .before .before .before .before .before .before .before .before .before .before .before .before .before .before .before .before .before) .pre .0) .is, (length-said ((c .before .before .before .before .before .before .before .before .before .before .before .before .before .before .before .before .before) .args .file .now) ((c .before .before .before .before .before .before .before .before .before .before .before .before .before .before .before .before .before) .args .h) (((c .before .before .before .before .before .before .before .before .before .before .before .before .before .before .before .before .before) .pre .0) .measured), (file-declarators-fit ((c .before .before .before .before .before .before .before .before .before .before .before .before .before .before .before .before .before) .args .file .now) ((c .before .before .before .before .before .before .before .before .before .before .before .before .before .before .before .before .before) .args .h) (((c .before .before .before .before .before .before .before .before .before .before .before .before .before .before .before .before .before) .pre .0) .is) (((c .before .before .before .before .before .before .before .before .before .before .before .before .before .before .before .before .before) .pre .0) .limits) (sym (((c .before .before .before .before .before .before .before .before .before .script-totals) .ensures) .0) ∙ (c .before .before .before .before .before .before .before .before .if2) .left), ((c .before .before .before .before .before .before .before .before .before .before .before .before .before .before .before .before .before) .pre .1 .1 .1 .1 .0, ((c .before .before .before .before .before .before .before .before .before .before .before .before .before .before .before .before .before) .pre .1 .1 .1 .1 .1 .0, (c .before .before .before .before .before .before .before .before .before .before .before .before .before .before .before .before .before) .pre .1 .1 .1 .1 .1 .1 .1 .1)))))
+names-are-declared-twice-requires c κs = (((c .before .before .before .before .before .before .before .before .before .before .before .before .before .before .before .before .before .before) .pre .0) .is, (length-said ((c .before .before .before .before .before .before .before .before .before .before .before .before .before .before .before .before .before .before) .args .file .now) ((c .before .before .before .before .before .before .before .before .before .before .before .before .before .before .before .before .before .before) .args .h) (((c .before .before .before .before .before .before .before .before .before .before .before .before .before .before .before .before .before .before) .pre .0) .measured), (file-declarators-fit ((c .before .before .before .before .before .before .before .before .before .before .before .before .before .before .before .before .before .before) .args .file .now) ((c .before .before .before .before .before .before .before .before .before .before .before .before .before .before .before .before .before .before) .args .h) (((c .before .before .before .before .before .before .before .before .before .before .before .before .before .before .before .before .before .before) .pre .0) .is) (((c .before .before .before .before .before .before .before .before .before .before .before .before .before .before .before .before .before .before) .pre .0) .limits) (sym (((c .before .before .before .before .before .before .before .before .before .script-totals) .ensures) .0) ∙ (c .before .before .before .before .before .before .before .before .if2) .left), ((c .before .before .before .before .before .before .before .before .before .before .before .before .before .before .before .before .before .before) .pre .1 .1 .1 .1 .0, ((c .before .before .before .before .before .before .before .before .before .before .before .before .before .before .before .before .before .before) .pre .1 .1 .1 .1 .1 .0, (c .before .before .before .before .before .before .before .before .before .before .before .before .before .before .before .before .before .before) .pre .1 .1 .1 .1 .1 .1 .1 .1)))))
 
 same-length-2 : tie.Need-same-length-2
 same-length-2 c = search needs
@@ -51,10 +52,10 @@ same-length-3 c = search needs
 
 returns-5 : tie.Need-returns-5
 unfolding refusal
-returns-5 c = rw (((c .before .before .before .before .before .before .before .before .before .before .before .before .before .before .before .before .before .before .before .before .before) .pre .0) .script, ← ((c .before .before .before .before .before .before .before .before .before .before .before .before .before .before .before .before .before .before .before .before .before) .pre .0) .is, ((c .before .before .before .before .before .before .before .before .before .before .before .before .before .before .before .before .before .before .before .before .before) .pre .0) .version, ((c .before .before .before .before .before .before .before .before .before .before .before .before .before .before .before .before .before .before .before .before .before) .pre .0) .limits, ((c .before .before .before .before .before .before .before .before .before .before .before .before .before .before .before .before .before .before .before .before .before) .pre .0) .measured, ← (c .before .before .before .before .before .before .before .before .before .before .before .before .before .before .before .facts-are-bad) .ensures, (c .before .before .before .before .before .before .before .before .before .before .before .before .before .before .if1) .left, ← ((c .before .before .before .before .before .before .before .before .before .before .before .before .before .script-totals) .ensures) .0, (c .before .before .before .before .before .before .before .before .before .before .before .before .if2) .left, ← (c .before .before .before .before .before .before .before .before .before .before .before .nodes-are-bad) .ensures, (c .before .before .before .before .before .before .before .before .before .before .if3) .left, ← (c .before .before .before .before .before .before .before .before .trees-are-bad) .ensures, (c .before .before .before .before .before .if4) .left, ← (c .before .before .before .names-are-declared-twice) .ensures, (c .if5) .taken)
+returns-5 c = rw (((c .before .before .before .before .before .before .before .before .before .before .before .before .before .before .before .before .before .before .before .before .before .before) .pre .0) .script, ← ((c .before .before .before .before .before .before .before .before .before .before .before .before .before .before .before .before .before .before .before .before .before .before) .pre .0) .is, ((c .before .before .before .before .before .before .before .before .before .before .before .before .before .before .before .before .before .before .before .before .before .before) .pre .0) .version, ((c .before .before .before .before .before .before .before .before .before .before .before .before .before .before .before .before .before .before .before .before .before .before) .pre .0) .limits, ((c .before .before .before .before .before .before .before .before .before .before .before .before .before .before .before .before .before .before .before .before .before .before) .pre .0) .measured, ← (c .before .before .before .before .before .before .before .before .before .before .before .before .before .before .before .before .facts-are-bad) .ensures, (c .before .before .before .before .before .before .before .before .before .before .before .before .before .before .if1) .left, ← ((c .before .before .before .before .before .before .before .before .before .before .before .before .before .script-totals) .ensures) .0, (c .before .before .before .before .before .before .before .before .before .before .before .before .if2) .left, ← (c .before .before .before .before .before .before .before .before .before .before .before .nodes-are-bad) .ensures, (c .before .before .before .before .before .before .before .before .before .before .if3) .left, ← (c .before .before .before .before .before .before .before .before .trees-are-bad) .ensures, (c .before .before .before .before .before .if4) .left, ← (c .before .before .before .names-are-declared-twice) .ensures, (c .if5) .taken)
 
 counts-are-bad-requires : tie.Need-counts-are-bad-requires
-counts-are-bad-requires c κs = (((c .before .before .before .before .before .before .before .before .before .before .before .before .before .before .before .before .before .before .before .before .before .before .before) .pre .0) .is, (length-said ((c .before .before .before .before .before .before .before .before .before .before .before .before .before .before .before .before .before .before .before .before .before .before .before) .args .file .now) ((c .before .before .before .before .before .before .before .before .before .before .before .before .before .before .before .before .before .before .before .before .before .before .before) .args .h) (((c .before .before .before .before .before .before .before .before .before .before .before .before .before .before .before .before .before .before .before .before .before .before .before) .pre .0) .measured), (le-trans (names-fit ((c .before .before .before .before .before .before .before .before .before .before .before .before .before .before .before .before .before .before .before .before .before .before .before) .args .h) (((c .before .before .before .before .before .before .before .before .before .before .before .before .before .before .before .before .before .before .before .before .before .before .before) .pre .0) .limits)) ((c .before .before .before .before .before .before .before .before .before .before .before .before .before .before .before .before .before .before .before .before .before .before .before) .pre .1 .1 .0), (le-trans (names-fit ((c .before .before .before .before .before .before .before .before .before .before .before .before .before .before .before .before .before .before .before .before .before .before .before) .args .h) (((c .before .before .before .before .before .before .before .before .before .before .before .before .before .before .before .before .before .before .before .before .before .before .before) .pre .0) .limits)) ((c .before .before .before .before .before .before .before .before .before .before .before .before .before .before .before .before .before .before .before .before .before .before .before) .pre .1 .1 .1 .0), ((c .before .before .before .before .before .before .before .before .before .before .before .before .before .before .before .before .before .before .before .before .before .before .before) .pre .1 .1 .1 .1 .1 .1 .0, (c .before .before .before .before .before .before .before .before .before .before .before .before .before .before .before .before .before .before .before .before .before .before .before) .pre .1 .1 .1 .1 .1 .1 .1 .0)))))
+counts-are-bad-requires c κs = (((c .before .before .before .before .before .before .before .before .before .before .before .before .before .before .before .before .before .before .before .before .before .before .before .before) .pre .0) .is, (length-said ((c .before .before .before .before .before .before .before .before .before .before .before .before .before .before .before .before .before .before .before .before .before .before .before .before) .args .file .now) ((c .before .before .before .before .before .before .before .before .before .before .before .before .before .before .before .before .before .before .before .before .before .before .before .before) .args .h) (((c .before .before .before .before .before .before .before .before .before .before .before .before .before .before .before .before .before .before .before .before .before .before .before .before) .pre .0) .measured), (le-trans (names-fit ((c .before .before .before .before .before .before .before .before .before .before .before .before .before .before .before .before .before .before .before .before .before .before .before .before) .args .h) (((c .before .before .before .before .before .before .before .before .before .before .before .before .before .before .before .before .before .before .before .before .before .before .before .before) .pre .0) .limits)) ((c .before .before .before .before .before .before .before .before .before .before .before .before .before .before .before .before .before .before .before .before .before .before .before .before) .pre .1 .1 .0), (le-trans (names-fit ((c .before .before .before .before .before .before .before .before .before .before .before .before .before .before .before .before .before .before .before .before .before .before .before .before) .args .h) (((c .before .before .before .before .before .before .before .before .before .before .before .before .before .before .before .before .before .before .before .before .before .before .before .before) .pre .0) .limits)) ((c .before .before .before .before .before .before .before .before .before .before .before .before .before .before .before .before .before .before .before .before .before .before .before .before) .pre .1 .1 .1 .0), ((c .before .before .before .before .before .before .before .before .before .before .before .before .before .before .before .before .before .before .before .before .before .before .before .before) .pre .1 .1 .1 .1 .1 .1 .0, (c .before .before .before .before .before .before .before .before .before .before .before .before .before .before .before .before .before .before .before .before .before .before .before .before) .pre .1 .1 .1 .1 .1 .1 .1 .0)))))
 
 same-length-4 : tie.Need-same-length-4
 same-length-4 c = search needs
@@ -70,10 +71,7 @@ same-length-7 c = search needs
 
 returns-6 : tie.Need-returns-6
 unfolding refusal
-returns-6 c = rw (((c .before .before .before .before .before .before .before .before .before .before .before .before .before .before .before .before .before .before .before .before .before .before .before .before .before .before .before .before .before) .pre .0) .script, ← ((c .before .before .before .before .before .before .before .before .before .before .before .before .before .before .before .before .before .before .before .before .before .before .before .before .before .before .before .before .before) .pre .0) .is, ((c .before .before .before .before .before .before .before .before .before .before .before .before .before .before .before .before .before .before .before .before .before .before .before .before .before .before .before .before .before) .pre .0) .version, ((c .before .before .before .before .before .before .before .before .before .before .before .before .before .before .before .before .before .before .before .before .before .before .before .before .before .before .before .before .before) .pre .0) .limits, ((c .before .before .before .before .before .before .before .before .before .before .before .before .before .before .before .before .before .before .before .before .before .before .before .before .before .before .before .before .before) .pre .0) .measured, ← (c .before .before .before .before .before .before .before .before .before .before .before .before .before .before .before .before .before .before .before .before .before .before .before .facts-are-bad) .ensures, (c .before .before .before .before .before .before .before .before .before .before .before .before .before .before .before .before .before .before .before .before .before .before .if1) .left, ← ((c .before .before .before .before .before .before .before .before .before .before .before .before .before .before .before .before .before .before .before .before .before .script-totals) .ensures) .0, (c .before .before .before .before .before .before .before .before .before .before .before .before .before .before .before .before .before .before .before .before .if2) .left, ← (c .before .before .before .before .before .before .before .before .before .before .before .before .before .before .before .before .before .before .before .nodes-are-bad) .ensures, (c .before .before .before .before .before .before .before .before .before .before .before .before .before .before .before .before .before .before .if3) .left, ← (c .before .before .before .before .before .before .before .before .before .before .before .before .before .before .before .before .trees-are-bad) .ensures, (c .before .before .before .before .before .before .before .before .before .before .before .before .before .if4) .left, ← (c .before .before .before .before .before .before .before .before .before .before .before .names-are-declared-twice) .ensures, (c .before .before .before .before .before .before .before .before .if5) .left, ← (c .before .before .before .before .before .counts-are-bad) .ensures, (c .if6) .taken)
-
-room-is-short-requires : tie.Need-room-is-short-requires
-room-is-short-requires c κs = (((c .before .before .before .before .before .before .before .before .before .before .before .before .before .before .before .before .before .before .before .before .before .before .before .before .before .before .before .before .before) .pre .0) .is, length-said ((c .before .before .before .before .before .before .before .before .before .before .before .before .before .before .before .before .before .before .before .before .before .before .before .before .before .before .before .before .before) .args .file .now) ((c .before .before .before .before .before .before .before .before .before .before .before .before .before .before .before .before .before .before .before .before .before .before .before .before .before .before .before .before .before) .args .h) (((c .before .before .before .before .before .before .before .before .before .before .before .before .before .before .before .before .before .before .before .before .before .before .before .before .before .before .before .before .before) .pre .0) .measured))
+returns-6 c = rw (((c .before .before .before .before .before .before .before .before .before .before .before .before .before .before .before .before .before .before .before .before .before .before .before .before .before .before .before .before .before .before) .pre .0) .script, ← ((c .before .before .before .before .before .before .before .before .before .before .before .before .before .before .before .before .before .before .before .before .before .before .before .before .before .before .before .before .before .before) .pre .0) .is, ((c .before .before .before .before .before .before .before .before .before .before .before .before .before .before .before .before .before .before .before .before .before .before .before .before .before .before .before .before .before .before) .pre .0) .version, ((c .before .before .before .before .before .before .before .before .before .before .before .before .before .before .before .before .before .before .before .before .before .before .before .before .before .before .before .before .before .before) .pre .0) .limits, ((c .before .before .before .before .before .before .before .before .before .before .before .before .before .before .before .before .before .before .before .before .before .before .before .before .before .before .before .before .before .before) .pre .0) .measured, ← (c .before .before .before .before .before .before .before .before .before .before .before .before .before .before .before .before .before .before .before .before .before .before .before .before .facts-are-bad) .ensures, (c .before .before .before .before .before .before .before .before .before .before .before .before .before .before .before .before .before .before .before .before .before .before .if1) .left, ← ((c .before .before .before .before .before .before .before .before .before .before .before .before .before .before .before .before .before .before .before .before .before .script-totals) .ensures) .0, (c .before .before .before .before .before .before .before .before .before .before .before .before .before .before .before .before .before .before .before .before .if2) .left, ← (c .before .before .before .before .before .before .before .before .before .before .before .before .before .before .before .before .before .before .before .nodes-are-bad) .ensures, (c .before .before .before .before .before .before .before .before .before .before .before .before .before .before .before .before .before .before .if3) .left, ← (c .before .before .before .before .before .before .before .before .before .before .before .before .before .before .before .before .trees-are-bad) .ensures, (c .before .before .before .before .before .before .before .before .before .before .before .before .before .if4) .left, ← (c .before .before .before .before .before .before .before .before .before .before .before .names-are-declared-twice) .ensures, (c .before .before .before .before .before .before .before .before .if5) .left, ← (c .before .before .before .before .before .counts-are-bad) .ensures, (c .if6) .taken)
 
 same-length-8 : tie.Need-same-length-8
 same-length-8 c = search needs
@@ -89,7 +87,7 @@ same-length-11 c = search needs
 
 returns-7 : tie.Need-returns-7
 unfolding refusal
-returns-7 c = rw (((c .before .before .before .before .before .before .before .before .before .before .before .before .before .before .before .before .before .before .before .before .before .before .before .before .before .before .before .before .before .before .before) .pre .0) .script, ← ((c .before .before .before .before .before .before .before .before .before .before .before .before .before .before .before .before .before .before .before .before .before .before .before .before .before .before .before .before .before .before .before) .pre .0) .is, ((c .before .before .before .before .before .before .before .before .before .before .before .before .before .before .before .before .before .before .before .before .before .before .before .before .before .before .before .before .before .before .before) .pre .0) .version, ((c .before .before .before .before .before .before .before .before .before .before .before .before .before .before .before .before .before .before .before .before .before .before .before .before .before .before .before .before .before .before .before) .pre .0) .limits, ((c .before .before .before .before .before .before .before .before .before .before .before .before .before .before .before .before .before .before .before .before .before .before .before .before .before .before .before .before .before .before .before) .pre .0) .measured, ← (c .before .before .before .before .before .before .before .before .before .before .before .before .before .before .before .before .before .before .before .before .before .before .before .before .before .facts-are-bad) .ensures, (c .before .before .before .before .before .before .before .before .before .before .before .before .before .before .before .before .before .before .before .before .before .before .before .before .if1) .left, ← ((c .before .before .before .before .before .before .before .before .before .before .before .before .before .before .before .before .before .before .before .before .before .before .before .script-totals) .ensures) .0, (c .before .before .before .before .before .before .before .before .before .before .before .before .before .before .before .before .before .before .before .before .before .before .if2) .left, ← (c .before .before .before .before .before .before .before .before .before .before .before .before .before .before .before .before .before .before .before .before .before .nodes-are-bad) .ensures, (c .before .before .before .before .before .before .before .before .before .before .before .before .before .before .before .before .before .before .before .before .if3) .left, ← (c .before .before .before .before .before .before .before .before .before .before .before .before .before .before .before .before .before .before .trees-are-bad) .ensures, (c .before .before .before .before .before .before .before .before .before .before .before .before .before .before .before .if4) .left, ← (c .before .before .before .before .before .before .before .before .before .before .before .before .before .names-are-declared-twice) .ensures, (c .before .before .before .before .before .before .before .before .before .before .if5) .left, ← (c .before .before .before .before .before .before .before .counts-are-bad) .ensures, (c .before .before .if6) .left, ← (c .before .room-is-short) .ensures, (c .if7) .taken)
+returns-7 c = rw (((c .before .before .before .before .before .before .before .before .before .before .before .before .before .before .before .before .before .before .before .before .before .before .before .before .before .before .before .before .before .before .before) .pre .0) .script, ← ((c .before .before .before .before .before .before .before .before .before .before .before .before .before .before .before .before .before .before .before .before .before .before .before .before .before .before .before .before .before .before .before) .pre .0) .is, ((c .before .before .before .before .before .before .before .before .before .before .before .before .before .before .before .before .before .before .before .before .before .before .before .before .before .before .before .before .before .before .before) .pre .0) .version, ((c .before .before .before .before .before .before .before .before .before .before .before .before .before .before .before .before .before .before .before .before .before .before .before .before .before .before .before .before .before .before .before) .pre .0) .limits, ((c .before .before .before .before .before .before .before .before .before .before .before .before .before .before .before .before .before .before .before .before .before .before .before .before .before .before .before .before .before .before .before) .pre .0) .measured, ← (c .before .before .before .before .before .before .before .before .before .before .before .before .before .before .before .before .before .before .before .before .before .before .before .before .before .facts-are-bad) .ensures, (c .before .before .before .before .before .before .before .before .before .before .before .before .before .before .before .before .before .before .before .before .before .before .before .if1) .left, ← ((c .before .before .before .before .before .before .before .before .before .before .before .before .before .before .before .before .before .before .before .before .before .before .script-totals) .ensures) .0, (c .before .before .before .before .before .before .before .before .before .before .before .before .before .before .before .before .before .before .before .before .before .if2) .left, ← (c .before .before .before .before .before .before .before .before .before .before .before .before .before .before .before .before .before .before .before .before .nodes-are-bad) .ensures, (c .before .before .before .before .before .before .before .before .before .before .before .before .before .before .before .before .before .before .before .if3) .left, ← (c .before .before .before .before .before .before .before .before .before .before .before .before .before .before .before .before .before .trees-are-bad) .ensures, (c .before .before .before .before .before .before .before .before .before .before .before .before .before .before .if4) .left, ← (c .before .before .before .before .before .before .before .before .before .before .before .before .names-are-declared-twice) .ensures, (c .before .before .before .before .before .before .before .before .before .if5) .left, ← (c .before .before .before .before .before .before .counts-are-bad) .ensures, (c .before .if6) .left, ← (c .before .before .before .before .before .before .before .before .before .before .before .before .before .before .before .before .before .before .before .before .before .before .before .before .room-is-short) .ensures, (c .if7) .taken)
 
 same-length-12 : tie.Need-same-length-12
 same-length-12 c = search needs
@@ -105,13 +103,14 @@ same-length-15 c = search needs
 
 returns-8 : tie.Need-returns-8
 unfolding refusal
-returns-8 c = rw (((c .before .before .before .before .before .before .before .before .before .before .before .before .before .before .before .before .before .before .before .before .before .before .before .before .before .before .before .before .before .before .before) .pre .0) .script, ← ((c .before .before .before .before .before .before .before .before .before .before .before .before .before .before .before .before .before .before .before .before .before .before .before .before .before .before .before .before .before .before .before) .pre .0) .is, ((c .before .before .before .before .before .before .before .before .before .before .before .before .before .before .before .before .before .before .before .before .before .before .before .before .before .before .before .before .before .before .before) .pre .0) .version, ((c .before .before .before .before .before .before .before .before .before .before .before .before .before .before .before .before .before .before .before .before .before .before .before .before .before .before .before .before .before .before .before) .pre .0) .limits, ((c .before .before .before .before .before .before .before .before .before .before .before .before .before .before .before .before .before .before .before .before .before .before .before .before .before .before .before .before .before .before .before) .pre .0) .measured, ← (c .before .before .before .before .before .before .before .before .before .before .before .before .before .before .before .before .before .before .before .before .before .before .before .before .before .facts-are-bad) .ensures, (c .before .before .before .before .before .before .before .before .before .before .before .before .before .before .before .before .before .before .before .before .before .before .before .before .if1) .left, ← ((c .before .before .before .before .before .before .before .before .before .before .before .before .before .before .before .before .before .before .before .before .before .before .before .script-totals) .ensures) .0, (c .before .before .before .before .before .before .before .before .before .before .before .before .before .before .before .before .before .before .before .before .before .before .if2) .left, ← (c .before .before .before .before .before .before .before .before .before .before .before .before .before .before .before .before .before .before .before .before .before .nodes-are-bad) .ensures, (c .before .before .before .before .before .before .before .before .before .before .before .before .before .before .before .before .before .before .before .before .if3) .left, ← (c .before .before .before .before .before .before .before .before .before .before .before .before .before .before .before .before .before .before .trees-are-bad) .ensures, (c .before .before .before .before .before .before .before .before .before .before .before .before .before .before .before .if4) .left, ← (c .before .before .before .before .before .before .before .before .before .before .before .before .before .names-are-declared-twice) .ensures, (c .before .before .before .before .before .before .before .before .before .before .if5) .left, ← (c .before .before .before .before .before .before .before .counts-are-bad) .ensures, (c .before .before .if6) .left, ← (c .before .room-is-short) .ensures, (c .if7) .left)
+returns-8 c = rw (((c .before .before .before .before .before .before .before .before .before .before .before .before .before .before .before .before .before .before .before .before .before .before .before .before .before .before .before .before .before .before .before) .pre .0) .script, ← ((c .before .before .before .before .before .before .before .before .before .before .before .before .before .before .before .before .before .before .before .before .before .before .before .before .before .before .before .before .before .before .before) .pre .0) .is, ((c .before .before .before .before .before .before .before .before .before .before .before .before .before .before .before .before .before .before .before .before .before .before .before .before .before .before .before .before .before .before .before) .pre .0) .version, ((c .before .before .before .before .before .before .before .before .before .before .before .before .before .before .before .before .before .before .before .before .before .before .before .before .before .before .before .before .before .before .before) .pre .0) .limits, ((c .before .before .before .before .before .before .before .before .before .before .before .before .before .before .before .before .before .before .before .before .before .before .before .before .before .before .before .before .before .before .before) .pre .0) .measured, ← (c .before .before .before .before .before .before .before .before .before .before .before .before .before .before .before .before .before .before .before .before .before .before .before .before .before .facts-are-bad) .ensures, (c .before .before .before .before .before .before .before .before .before .before .before .before .before .before .before .before .before .before .before .before .before .before .before .if1) .left, ← ((c .before .before .before .before .before .before .before .before .before .before .before .before .before .before .before .before .before .before .before .before .before .before .script-totals) .ensures) .0, (c .before .before .before .before .before .before .before .before .before .before .before .before .before .before .before .before .before .before .before .before .before .if2) .left, ← (c .before .before .before .before .before .before .before .before .before .before .before .before .before .before .before .before .before .before .before .before .nodes-are-bad) .ensures, (c .before .before .before .before .before .before .before .before .before .before .before .before .before .before .before .before .before .before .before .if3) .left, ← (c .before .before .before .before .before .before .before .before .before .before .before .before .before .before .before .before .before .trees-are-bad) .ensures, (c .before .before .before .before .before .before .before .before .before .before .before .before .before .before .if4) .left, ← (c .before .before .before .before .before .before .before .before .before .before .before .before .names-are-declared-twice) .ensures, (c .before .before .before .before .before .before .before .before .before .if5) .left, ← (c .before .before .before .before .before .before .counts-are-bad) .ensures, (c .before .if6) .left, ← (c .before .before .before .before .before .before .before .before .before .before .before .before .before .before .before .before .before .before .before .before .before .before .before .before .room-is-short) .ensures, (c .if7) .left)
 
 pub check-spec : {M : Type 1} → statement M
 check-spec =
     tie.close
     (tie.spec
     facts-are-bad-requires
+    room-is-short-requires
     returns
     script-totals-requires
     returns-2
@@ -130,7 +129,6 @@ check-spec =
     same-length-6
     same-length-7
     returns-6
-    room-is-short-requires
     same-length-8
     same-length-9
     same-length-10

@@ -1,61 +1,39 @@
 -- `refusal::check::refusal` meets its contract. Assumes nothing.
-use mathlib.Core.Path.{_≡_, refl, sym, ap, _∙_}
-use Rattle.records.specs.Refusal.{refusal}
+use native.Mathlib.Omega.{arith}
+use mathlib.Core.Path.{_≡_, refl, sym, ap, _∙_, subst}
+use Rattle.refusal.specs.Passing.{HeaderPasses}
 use Rattle.refusal.proofs.Limits.{long-enough}
-use borrow.Author.Needs.{needs}
 use borrow.Author.Needs.{needs}
 use Rattle.refusal.proofs.check.refusal.Statement.{statement}
 use Rattle.refusal.proofs.check.refusal.Tie as tie
 
-not-a-script-requires : tie.Need-not-a-script-requires
-not-a-script-requires c κs = search needs
+header-refusal-requires : tie.Need-header-refusal-requires
+header-refusal-requires c κs = search needs
+
+number-of-requires : tie.Need-number-of-requires
+number-of-requires c κs = search needs
 
 returns : tie.Need-returns
-unfolding refusal
-returns c = rw (← (c .before .not-a-script) .ensures, (c .if1) .taken)
+returns c = (c .before .before .header-refusal) .ensures .1 (omega (arith, (c .if1) .taken, (c .before .number-of) .ensures)) ((c .before .before .before .before) .args .room)
 
 header-of-requires : tie.Need-header-of-requires
-header-of-requires c κs = long-enough ((c .before .before .before) .args .file .now) (sym ((c .before .not-a-script) .ensures) ∙ (c .if1) .left)
-
-other-version-requires : tie.Need-other-version-requires
-other-version-requires c κs = search needs
-
-outside-limits-requires : tie.Need-outside-limits-requires
-outside-limits-requires c κs = search needs
-
-returns-2 : tie.Need-returns-2
-unfolding refusal
-returns-2 c = rw (← (c .before .before .before .before .before .not-a-script) .ensures, (c .before .before .before .before .if1) .left, ← (c .before .before .before .header-of) .ensures, ← (c .before .before .other-version) .ensures, (c .if2) .taken)
-
-returns-3 : tie.Need-returns-3
-unfolding refusal
-returns-3 c = rw (← (c .before .before .before .before .before .before .not-a-script) .ensures, (c .before .before .before .before .before .if1) .left, ← (c .before .before .before .before .header-of) .ensures, ← (c .before .before .before .other-version) .ensures, (c .before .if2) .left, ← (c .before .before .outside-limits) .ensures, (c .if3) .taken)
-
-other-length-requires : tie.Need-other-length-requires
-other-length-requires c κs = search needs
-
-returns-4 : tie.Need-returns-4
-unfolding refusal
-returns-4 c = rw (← (c .before .before .before .before .before .before .before .before .not-a-script) .ensures, (c .before .before .before .before .before .before .before .if1) .left, ← (c .before .before .before .before .before .before .header-of) .ensures, ← (c .before .before .before .before .before .other-version) .ensures, (c .before .before .before .if2) .left, ← (c .before .before .before .before .outside-limits) .ensures, (c .before .before .if3) .left, ← (c .before .other-length) .ensures, (c .if4) .taken)
+header-of-requires c κs = long-enough ((c .before .before .before .before) .args .file .now) ((c .before .before .header-refusal) .ensures .0 (omega (arith, (c .if1) .left, (c .before .number-of) .ensures)) .script)
 
 check-records-requires : tie.Need-check-records-requires
-check-records-requires c κs = record { is = (c .before .before .before .before .before .before .header-of) .ensures; script = sym ((c .before .before .before .before .before .before .before .before .not-a-script) .ensures) ∙ (c .before .before .before .before .before .before .before .if1) .left; version = sym ((c .before .before .before .before .before .other-version) .ensures) ∙ (c .before .before .before .if2) .left; limits = sym ((c .before .before .before .before .outside-limits) .ensures) ∙ (c .before .before .if3) .left; measured = sym ((c .before .other-length) .ensures) ∙ (c .if4) .left }
+check-records-requires c κs =
+    subst (HeaderPasses ((c .before .before .before .before .before) .args .file .now)) (sym ((c .header-of) .ensures))
+    ((c .before .before .before .header-refusal) .ensures .0 (omega (arith, (c .before .if1) .left, (c .before .before .number-of) .ensures)))
 
-returns-5 : tie.Need-returns-5
-returns-5 c = search needs
+returns-2 : tie.Need-returns-2
+returns-2 c = search needs
 
 pub refusal-spec : {M : Type 1} → statement M
 refusal-spec =
     tie.close
     (tie.spec
-    not-a-script-requires
+    header-refusal-requires
+    number-of-requires
     returns
     header-of-requires
-    other-version-requires
-    outside-limits-requires
-    returns-2
-    returns-3
-    other-length-requires
-    returns-4
     check-records-requires
-    returns-5)
+    returns-2)

@@ -1,5 +1,5 @@
-use mathlib.Core.Bool.{Bool, true, false}
-use mathlib.Core.Path.{_≡_, refl, sym, ap, _∙_}
+use mathlib.Core.Bool.{false}
+use mathlib.Core.Path.{refl}
 use Rattle.records.specs.Flags.{optional}
 use Rattle.records.specs.Tree.{nodeOf}
 use Rattle.records.proofs.Tests.{clash}
@@ -86,7 +86,7 @@ returns-20 : tie.Need-returns-20
 returns-20 c = λ _. link-spread ((c .before .before .before) .args .n) ((c .before .before .before) .args .s) ((c .before .if1) .left) ((c .match) .keys19)
 
 returns-21 : tie.Need-returns-21
-returns-21 c = λ h. link-property ((c .before .before .before .before) .args .n) ((c .before .before .before .before) .args .s) ((c .before .before .if1) .left) ((c .before .match) .keys20) h
+returns-21 c = λ h. link-property ((c .before .before .before .before .before) .args .n) ((c .before .before .before .before .before) .args .s) ((c .before .before .before .if1) .left) ((c .before .before .match) .keys20) h
 
 returns-22 : tie.Need-returns-22
 returns-22 c = λ _. link-sequence ((c .before .before .before) .args .n) ((c .before .before .before) .args .s) ((c .before .if1) .left) ((c .match) .keys21)

@@ -1,0 +1,78 @@
+use native.Mathlib.Omega.{arith}
+use Prim.Native.Nat.{ℕ, _+_, _*_, _-_, _≤_}
+use mathlib.Core.Bool.{Bool, false, _||_}
+use mathlib.Core.Path.{_≡_, sym, _∙_, subst}
+use lib.ListN.{length}
+use Rattle.records.specs.Record.{nodeAt}
+use Rattle.substitute.specs.OfNode.{isLeaf}
+use Rattle.substitute.specs.Links.{Leaves, SomeNode}
+use Rattle.substitute.proofs.Chain.{leaves-back, node-sooner, leaves-start, leaves-all}
+use Rattle.substitute.proofs.descent.leaves_before.Statement.{statement}
+use Rattle.substitute.proofs.descent.leaves_before.Tie as tie
+use Rattle.substitute.proofs.descent.leaves_before.Reads as reads
+use Rattle.substitute.proofs.descent.leaves_before.Lts as lts
+use Rattle.substitute.proofs.leaf.is_leaf.Reads as is-leaf-reads
+use Rattle.substitute.proofs.leaf.leaf_effect.Reads as leaf-effect-reads
+use Rattle.substitute.proofs.leaf.leaf_looks.Reads as leaf-looks-reads
+use Rattle.table.proofs.work_node.Reads as work-node-reads
+
+abbrev Inv-loop : tie.InvT-loop
+Inv-loop nodes link₀ looks₀ effect₀ n₀ link looks effect n = (n ≡ nodeAt nodes (16 * link)) × (looks + link ≤ link₀) × (16 * link₀ + 16 ≤ length nodes) × SomeNode nodes (link + 1) × ((a : ℕ) (e : Bool) (m : ℕ) → Leaves nodes a (link + 1) e m → Leaves nodes a (link₀ + 1) (e || effect) (m + looks))
+
+abbrev μ-loop : tie.MeasureT-loop
+μ-loop nodes link₀ looks₀ effect₀ n₀ link looks effect n = link
+
+sub-link : tie.Need-sub-link Inv-loop μ-loop
+sub-link c = omega (arith, (c .before .before) .pre .1 .1)
+
+work-node-requires : tie.Need-work-node-requires Inv-loop μ-loop
+work-node-requires c κs = omega (arith, (c .before .before) .pre .0, (c .before .before) .pre .1 .1)
+
+loop-holds : tie.Need-loop-holds Inv-loop μ-loop
+loop-holds c = ((c .work-node) .ensures, omega arith, omega (arith, (c .before .before .before) .pre .0, (c .before .before .before) .pre .1 .1), subst (SomeNode ((c .before .before .before) .args .nodes .now)) (omega (arith, (c .before .before .before) .pre .1 .1)) ((c .before .before .before) .pre .1), leaves-start ((c .before .before .before) .args .nodes .now) _)
+
+is-leaf-requires : tie.Need-is-leaf-requires Inv-loop μ-loop
+is-leaf-requires c κs = tt
+
+leaf-looks-requires : tie.Need-leaf-looks-requires Inv-loop μ-loop
+leaf-looks-requires c κs = tt
+
+add-looks : tie.Need-add-looks Inv-loop μ-loop
+add-looks c = omega (arith, (c .leaf-looks) .ensures .1, (c .before .before .before .loop) .inv .1, (c .before .before .before .loop) .inv .2, (c .before .before .before .before .before .before .before) .good .0)
+
+leaf-effect-requires : tie.Need-leaf-effect-requires Inv-loop μ-loop
+leaf-effect-requires c κs = tt
+
+sub-link-2 : tie.Need-sub-link-2 Inv-loop μ-loop
+sub-link-2 c = omega (arith, node-sooner ((c .before .before .before .before .before .before .before .before) .args .nodes .now) ((c .before .before .before .before .loop) .link) ((c .before .before .before .before .loop) .n) ((c .before .before .before .before .loop) .inv .0) (sym ((c .before .before .before .is-leaf) .ensures) ∙ (c .before .before .if1) .taken) ((c .before .before .before .before .loop) .inv .3) .1)
+
+work-node-requires-2 : tie.Need-work-node-requires-2 Inv-loop μ-loop
+work-node-requires-2 c κs = omega (arith, (c .before .before .before .before .loop) .inv .1, (c .before .before .before .before .loop) .inv .2)
+
+loop-less : tie.Need-loop-less Inv-loop μ-loop
+loop-less c = omega (arith, node-sooner ((c .before .before .before .before .before .before .before .before .before) .args .nodes .now) ((c .before .before .before .before .before .loop) .link) ((c .before .before .before .before .before .loop) .n) ((c .before .before .before .before .before .loop) .inv .0) (sym ((c .before .before .before .before .is-leaf) .ensures) ∙ (c .before .before .before .if1) .taken) ((c .before .before .before .before .before .loop) .inv .3) .1)
+
+loop-again : tie.Need-loop-again Inv-loop μ-loop
+loop-again c = let h = sym ((c .before .before .before .before .is-leaf) .ensures) ∙ (c .before .before .before .if1) .taken in let o = node-sooner ((c .before .before .before .before .before .before .before .before .before) .args .nodes .now) ((c .before .before .before .before .before .loop) .link) ((c .before .before .before .before .before .loop) .n) ((c .before .before .before .before .before .loop) .inv .0) h ((c .before .before .before .before .before .loop) .inv .3) in ((c .work-node2) .ensures, omega (arith, (c .before .before .leaf-looks) .ensures .1, (c .before .before .before .before .before .loop) .inv .1, o .1), (c .before .before .before .before .before .loop) .inv .2, subst (SomeNode ((c .before .before .before .before .before .before .before .before .before) .args .nodes .now)) (omega (arith, o .1)) o, leaves-back ((c .before .before .before .before .before .before .before .before .before) .args .nodes .now) ((c .before .before .before .before .before .loop) .link) _ ((c .before .before .before .before .before .loop) .looks) ((c .before .before .before .before .before .loop) .effect) ((c .before .before .before .before .before .loop) .n) ((c .before .before .before .before .before .loop) .inv .0) h ((c .before .leaf-effect) .result) ((c .before .leaf-effect) .ensures h) ((c .before .before .leaf-looks) .result) ((c .before .before .leaf-looks) .ensures .0 h) (omega (arith, o .1)) ((c .before .before .before .before .before .loop) .inv .4))
+
+returns : tie.Need-returns Inv-loop μ-loop
+returns c = record { sooner = omega (arith, (c .before .before .loop) .inv .1, (c .before .before .before .before .before .before) .pre .1 .1); other = subst (λ n. isLeaf n ≡ false) ((c .before .before .loop) .inv .0) (sym ((c .before .is-leaf) .ensures) ∙ (c .if1) .left); leaves = leaves-all ((c .before .before .before .before .before .before) .args .nodes .now) ((c .before .before .loop) .link) _ ((c .before .before .before .before .before .before) .args .child .0) ((c .before .before .loop) .looks) ((c .before .before .loop) .effect) (omega (arith, (c .before .before .before .before .before .before) .pre .1 .1)) ((c .before .before .loop) .inv .4) }
+
+pub leaves-before-spec : {M : Type 1} → statement M
+leaves-before-spec =
+    tie.close
+    (tie.spec
+    Inv-loop
+    μ-loop
+    sub-link
+    work-node-requires
+    loop-holds
+    is-leaf-requires
+    leaf-looks-requires
+    add-looks
+    leaf-effect-requires
+    sub-link-2
+    work-node-requires-2
+    loop-less
+    loop-again
+    returns)
