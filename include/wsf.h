@@ -63,9 +63,9 @@ typedef struct {
  * Threads: no global or static state, no allocation, no system call; any number of threads may fold
  * at the same time. Of the C library it asks for memcpy and memset.
  *
- * Stack: 15 KB for a small script and 77 KB for one of a few hundred nodes; where they are refused, 8
+ * Stack: 14 KB for a small script and 76 KB for one of a few hundred nodes; where they are refused, 8
  * and 70 KB. The search recurses at most once for each level of a tree: the deepest trees that a file
- * can hold (3,000 nodes) take 1.30 MB, the most measured over every kind that nests. 2 MB below the
+ * can hold (3,000 nodes) take 0.83 MB, the most measured over every kind that nests. 2 MB below the
  * call are enough. The size is measured, not proved; the compiled code was seen to touch each page of
  * a frame in turn, so that a stack which is too small ends in the guard page.
  */
