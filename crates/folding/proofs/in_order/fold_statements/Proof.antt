@@ -64,26 +64,26 @@ loop-less c = omega arith
 
 loop-again : tie.Need-loop-again Inv-loop μ-loop
 loop-again c = (
-  omega arith,
-  omega arith,
-  omega arith,
-  omega arith,
+  ((c .before .before .before .before .before .before .before .before .fold-statement) .kept .1 .1 .0) ∙ ((c .before .before .before .before .before .before .before .before .before .before .before .before .before .before .before .loop) .inv .0),
+  ((c .before .before .before .before .before .before .before .before .fold-statement) .kept .1 .1 .1 .0) ∙ ((c .before .before .before .before .before .before .before .before .before .before .before .before .before .before .before .loop) .inv .1),
+  ((c .before .before .before .before .before .before .before .before .fold-statement) .kept .1 .1 .1 .1 .0) ∙ ((c .before .before .before .before .before .before .before .before .before .before .before .before .before .before .before .loop) .inv .2),
+  ((c .before .before .before .before .before .before .before .before .fold-statement) .kept .1 .1 .1 .1 .1 .0) ∙ ((c .before .before .before .before .before .before .before .before .before .before .before .before .before .before .before .loop) .inv .3),
   (λ i. omega (arith, (c .before .before .before .before .slice-known6) .given i)),
   (λ i. omega (arith, (c .slice-known8) .given i)),
   ordered-on ((c .before .before .before .before .before .before .before .before .before .before .before .before .before .before .before .before .before .before .before .before .before .before .before) .args .file .now) ((c .before .before .before .before .before .before .before .before .before .before .before .before .before .before .before .before .before .before .before .before .before .before .before) .args .h) (omega arith) _ _ _ _ ((c .before .before .before .before .before .before .before .before .before .before .before .before .before .statement-at) .result) _ ((c .before .before .before .before .before .before .before .before .before .before .before .before .before .statement-at) .ensures ∙ ap (λ (k : ℕ). statementAt ((c .before .before .before .before .before .before .before .before .before .before .before .before .before .before .before .before .before .before .before .before .before .before .before) .args .file .now) (k + 4 * (c .before .before .before .before .before .before .before .before .before .before .before .before .before .before .before .loop) .i)) (ap (λ (l : List ℕ). getD l 5 0) ((c .before .before .before .before .before .before .before .before .before .before .before .before .before .before .before .before .before .part-offsets) .ensures))) ((c .before .before .before .before .before .before .before .before .fold-statement) .ensures) ((c .before .before .before .before .before .before .before .before .before .before .before .before .before .before .before .loop) .inv .6),
 )
 
 same-length : tie.Need-same-length Inv-loop μ-loop
-same-length c = omega arith
+same-length c = (c .before .loop) .inv .0
 
 same-length-2 : tie.Need-same-length-2 Inv-loop μ-loop
-same-length-2 c = omega arith
+same-length-2 c = (c .before .loop) .inv .1
 
 same-length-3 : tie.Need-same-length-3 Inv-loop μ-loop
-same-length-3 c = omega arith
+same-length-3 c = (c .before .loop) .inv .2
 
 same-length-4 : tie.Need-same-length-4 Inv-loop μ-loop
-same-length-4 c = omega arith
+same-length-4 c = (c .before .loop) .inv .3
 
 returns : tie.Need-returns Inv-loop μ-loop
 returns c =
