@@ -3,18 +3,17 @@ ghost use mathlib.Core.Path.{_≡_};
 ghost use mathlib.Core.Bool.{_&&_, _||_, not};
 ghost use Prim.Native.Nat.{ℕ, _+_, _*_, _≤_};
 ghost use lib.ListN.{length};
-ghost use Rattle.records.specs.Record.{nameAt, nodeAt};
-ghost use Rattle.records.specs.Records.{recordsFrom, every};
+ghost use Rattle.records.specs.Record.{nameAt};
+ghost use Rattle.records.specs.Records.{recordsFrom};
 ghost use Rattle.records.specs.Flags.{marked as isMarked};
 ghost use Rattle.records.specs.Node.{fewest as fewestOf, most as mostOf, goodChildren, goodFlags, mayMark, goodNodeOf, goodNode};
 use crate::facts::flags_of;
 use crate::layout::NameId;
 use crate::layout::NodeRecord;
-use crate::layout::node_at;
 use crate::limits::NO_POSITION;
 
 // The fewest and the most children of kinds 0 to 30; 65535: any number.
-const FEWEST: [u16; 31] = [
+pub const FEWEST: [u16; 31] = [
     0,
     0,
     0,
@@ -48,7 +47,7 @@ const FEWEST: [u16; 31] = [
     0,
 ];
 
-const MOST: [u16; 31] = [
+pub const MOST: [u16; 31] = [
     0,
     0,
     0,
@@ -148,7 +147,7 @@ fn record_is_good(n: NodeRecord, names: u16, fewest: &[u16], most: &[u16]) -> bo
 }
 
 // A node by itself. Most have no flags, or are marked and no more; the flags of a name are asked for a node that has some.
-fn node_is_good(file: &[u8], names: u16, n: NodeRecord, fewest: &[u16], most: &[u16]) -> bool
+pub fn node_is_good(file: &[u8], names: u16, n: NodeRecord, fewest: &[u16], most: &[u16]) -> bool
     requires { ⌜ 24 + 12 * names ≤ length (now file) ⌝ }
     requires { ⌜ now fewest ≡ fewestOf ⌝ }
     requires { ⌜ now most ≡ mostOf ⌝ }
@@ -164,40 +163,4 @@ fn node_is_good(file: &[u8], names: u16, n: NodeRecord, fewest: &[u16], most: &[
     let marked = n.flags / 1 % 2 == 1;
     record_is_good(n, names, fewest, most)
         & (flags_are_good(n) & (!marked | may_mark(n, name_flags)))
-}
-
-// Whether all of the nodes from `from` on are good, by the tables of children.
-fn nodes_are_good_by(
-    file: &[u8],
-    from: usize,
-    count: usize,
-    names: u16,
-    fewest: &[u16],
-    most: &[u16],
-) -> bool
-    requires { ⌜ from + 12 * count ≤ length (now file) ⌝ }
-    requires { ⌜ 24 + 12 * names ≤ length (now file) ⌝ }
-    requires { ⌜ now fewest ≡ fewestOf ⌝ }
-    requires { ⌜ now most ≡ mostOf ⌝ }
-    ensures { λ r. ⌜ r ≡ every (goodNode (recordsFrom (nameAt (now (file .entry))) 12 names 24)) (recordsFrom (nodeAt (now (file .entry))) 12 count from) ⌝ }
-{
-    let mut good = true;
-    let mut i = 0;
-    while i < count {
-        let n = node_at(file, from + 12 * i);
-        good = good & node_is_good(file, names, n, fewest, most);
-        i += 1;
-    }
-    good
-}
-
-// Whether all of the nodes from `from` on are good.
-pub fn nodes_are_good(file: &[u8], from: usize, count: usize, names: u16) -> bool
-    requires { ⌜ from + 12 * count ≤ length (now file) ⌝ }
-    requires { ⌜ 24 + 12 * names ≤ length (now file) ⌝ }
-    ensures { λ r. ⌜ r ≡ every (goodNode (recordsFrom (nameAt (now (file .entry))) 12 names 24)) (recordsFrom (nodeAt (now (file .entry))) 12 count from) ⌝ }
-{
-    let fewest = FEWEST;
-    let most = MOST;
-    nodes_are_good_by(file, from, count, names, &fewest, &most)
 }

@@ -1,3 +1,4 @@
 -- The laws that the proofs of several functions cite.
 pub mod Judged
 pub mod Limits
+pub mod Scans

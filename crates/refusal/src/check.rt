@@ -13,10 +13,9 @@ use crate::answer::number_of;
 use crate::file_rows::counts_are_bad;
 use crate::file_rows::facts_are_bad;
 use crate::file_rows::names_are_declared_twice;
-use crate::file_rows::nodes_are_bad;
+use crate::file_rows::node_rows;
 use crate::file_rows::room_is_short;
 use crate::file_rows::script_totals;
-use crate::file_rows::trees_are_bad;
 use records::header::not_a_script;
 use records::header::other_length;
 use records::header::other_version;
@@ -54,10 +53,11 @@ fn check(
     if script.bad {
         return Refusal::BadScript;
     }
-    if nodes_are_bad(file, h) {
+    let rows = node_rows(file, h, script.trees, stack, reads, targets);
+    if rows.bad_nodes {
         return Refusal::BadNodes;
     }
-    if trees_are_bad(file, h, script.trees, stack) {
+    if rows.bad_trees {
         return Refusal::BadTrees;
     }
     if names_are_declared_twice(file, h, seen) {

@@ -10,23 +10,22 @@ ghost use Rattle.records.specs.Facts.{badFacts};
 ghost use Rattle.records.specs.Script.{badScript, declaredTwice};
 ghost use Rattle.records.specs.Node.{badNodes};
 ghost use Rattle.records.specs.Place.{badTrees, expressions};
-ghost use Rattle.records.specs.Count.{badCounts};
+ghost use Rattle.records.specs.Count.{badCounts, readsOf, targetsOf};
 ghost use Rattle.records.specs.Tree.{rowOf};
 ghost use Rattle.records.specs.File.{fileLength, namesOf, scopesOf, framesOf, nodesOf, declaratorsOf, statementsOf, initializers};
 ghost use Rattle.records.specs.Refusal.{roomWanted};
 ghost use Rattle.uses.specs.Tally.{Tally, fits};
+ghost use Rattle.refusal.specs.Passing.{HeaderPasses};
+use crate::scan::scan_nodes;
 use records::facts::frames_are_good;
 use records::facts::names_are_good;
 use records::facts::scopes_are_good;
 use records::header::part_offsets;
 use records::layout::Header;
-use records::node::nodes_are_good;
 use records::number::size;
 use records::script::declarator_totals;
 use records::script::statement_totals;
 use trees::place::roots_stand;
-use trees::tree::tree_totals;
-use uses::count::count_uses;
 use uses::count::counts_are_good;
 use uses::declared::declared_twice;
 
@@ -66,44 +65,37 @@ pub fn script_totals(file: &[u8], h: Header) -> ScriptTotals
     }
 }
 
-// Row 7.
-pub fn nodes_are_bad(file: &[u8], h: Header) -> bool
-    requires { ⌜ h ≡ headerOf (now file) ⌝ }
-    requires { ⌜ length (now file) ≡ fileLength h ⌝ }
-    ensures { λ r. ⌜ r ≡ badNodes (namesOf (now (file .entry))) (nodesOf (now (file .entry))) ⌝ }
-{
-    let parts = part_offsets(h);
-    !nodes_are_good(file, parts[3], size(h.nodes), h.names)
+pub struct NodeRows {
+    pub bad_nodes: bool,
+    pub bad_trees: bool,
 }
 
-// Row 8, where the declarators and statements have so many trees.
-pub fn trees_are_bad(file: &[u8], h: Header, trees: usize, stack: &mut [u16]) -> bool
-    requires { ⌜ h ≡ headerOf (now file) ⌝ }
-    requires { ⌜ length (now file) ≡ fileLength h ⌝ }
+// Rows 7 and 8, where the declarators and statements have so many trees, and the uses of each name for row 10.
+pub fn node_rows(
+    file: &[u8],
+    h: Header,
+    trees: usize,
+    stack: &mut [u16],
+    reads: &mut [u16],
+    targets: &mut [u16],
+) -> NodeRows
+    requires { ⌜ HeaderPasses (now file) h ⌝ }
     requires { ⌜ trees ≡ initializers (declaratorsOf (now file)) + expressions (statementsOf (now file)) ⌝ }
     requires { ⌜ h .nodes ≤ length (now stack) ⌝ }
-    ensures { λ r. ⌜ r ≡ badTrees (declaratorsOf (now (file .entry))) (statementsOf (now (file .entry))) (nodesOf (now (file .entry))) ⌝ }
-{
-    let parts = part_offsets(h);
-    let t = tree_totals(file, parts[3], size(h.nodes), stack);
-    let found = stack.len() - t.top;
-    let all = found == trees;
-    !(t.good & all & roots_stand(stack, t.top, found))
-}
-
-// Row 10.
-pub fn counts_are_bad(file: &[u8], h: Header, reads: &mut [u16], targets: &mut [u16]) -> bool
-    requires { ⌜ h ≡ headerOf (now file) ⌝ }
-    requires { ⌜ length (now file) ≡ fileLength h ⌝ }
-    requires { ⌜ h .names ≤ length (now reads) ⌝ }
-    requires { ⌜ h .names ≤ length (now targets) ⌝ }
     requires { ⌜ Tally (λ k. 0) (now reads) ⌝ }
     requires { ⌜ Tally (λ k. 0) (now targets) ⌝ }
-    ensures { λ r. ⌜ r ≡ badCounts (namesOf (now (file .entry))) (rowOf (nodesOf (now (file .entry)))) ⌝ }
+    ensures { λ r. ⌜ r .«bad_nodes» ≡ badNodes (namesOf (now (file .entry))) (nodesOf (now (file .entry))) ⌝ }
+    ensures { λ r. ⌜ r .«bad_trees» ≡ badTrees (declaratorsOf (now (file .entry))) (statementsOf (now (file .entry))) (nodesOf (now (file .entry))) ⌝ }
+    ensures { λ r. ⌜ Tally (λ k. readsOf k (rowOf (nodesOf (now (file .entry))))) (now (reads .exit)) ⌝ }
+    ensures { λ r. ⌜ Tally (λ k. targetsOf k (rowOf (nodesOf (now (file .entry))))) (now (targets .exit)) ⌝ }
 {
-    let parts = part_offsets(h);
-    count_uses(file, parts[3], size(h.nodes), reads, targets);
-    !counts_are_good(file, size(h.names), reads, targets)
+    let s = scan_nodes(file, h, stack, reads, targets);
+    let found = stack.len() - s.top;
+    let all = found == trees;
+    NodeRows {
+        bad_nodes: !s.nodes,
+        bad_trees: !(s.trees & all & roots_stand(stack, s.top, found)),
+    }
 }
 
 // Row 9, of a file that row 6 doesn't refuse.
@@ -118,6 +110,19 @@ pub fn names_are_declared_twice(file: &[u8], h: Header, seen: &mut [u8]) -> bool
 {
     let parts = part_offsets(h);
     declared_twice(file, parts[4], size(h.declarators), seen)
+}
+
+// Row 10, by the uses of each name.
+pub fn counts_are_bad(file: &[u8], h: Header, reads: &[u16], targets: &[u16]) -> bool
+    requires { ⌜ h ≡ headerOf (now file) ⌝ }
+    requires { ⌜ length (now file) ≡ fileLength h ⌝ }
+    requires { ⌜ h .names ≤ length (now reads) ⌝ }
+    requires { ⌜ h .names ≤ length (now targets) ⌝ }
+    requires { ⌜ Tally (λ k. readsOf k (rowOf (nodesOf (now file)))) (now reads) ⌝ }
+    requires { ⌜ Tally (λ k. targetsOf k (rowOf (nodesOf (now file)))) (now targets) ⌝ }
+    ensures { λ r. ⌜ r ≡ badCounts (namesOf (now (file .entry))) (rowOf (nodesOf (now (file .entry)))) ⌝ }
+{
+    !counts_are_good(file, size(h.names), reads, targets)
 }
 
 // Row 11.

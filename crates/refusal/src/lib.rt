@@ -2,3 +2,5 @@
 pub mod answer;
 pub mod check;
 pub mod file_rows;
+pub mod plain;
+pub mod scan;

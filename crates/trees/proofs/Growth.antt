@@ -11,18 +11,10 @@ use Rattle.records.specs.Tree.{Trees, grown, rowOf, closed}
 use Rattle.records.specs.Place.{allPlaced}
 use Rattle.records.specs.declared.layout.NodeRecord.{NodeRecord}
 use Rattle.trees.specs.Stack.{entries, childrenStand, nodeEntry, pushed}
+use Rattle.trees.specs.Growing.{Growing}
 use Rattle.records.proofs.Behind.{one-more, all-left}
 use Rattle.trees.proofs.Rows.{entries-grown, grown-good}
 use Rattle.trees.proofs.Stacks.{found, drop-found, laid}
-
--- i of n nodes are left; behind them stand the trees of the others
-pub record Growing (readAt : ℕ → NodeRecord) (len n from : ℕ) (stack₀ stack : List ℕ) (good : Bool) (top i : ℕ) : Type 0 where
-  pub within : i ≤ n
-  pub long : length stack ≡ length stack₀
-  pub inside : top ≤ length stack
-  pub room : length stack + i ≤ top + n
-  pub same : drop top stack ≡ entries (rowOf (recordsFrom readAt len (n - i) (from + len * i)))
-  pub judged : good ≡ (closed (recordsFrom readAt len (n - i) (from + len * i)) && allPlaced (rowOf (recordsFrom readAt len (n - i) (from + len * i))))
 
 -- the entries once the node has taken its children
 pushed-stack : (n : NodeRecord) (stack : List ℕ) (top t e : ℕ) → t < length stack → e ≡ nodeEntry n (drop top stack)
@@ -32,27 +24,25 @@ pushed-stack n stack top t e h ee et =
     laid stack t e h
     ∙ rw (et, ee, ← drop-drop (min (n .children) (length stack - top)) top stack, found stack (n .children) top, drop-found (n .children) (drop top stack))
 
-module _ {readAt : ℕ → NodeRecord} {len n from : ℕ} {stack₀ : List ℕ} where
-  pub growing-none : (m : ℕ) → m ≡ length stack₀ → Growing readAt len n from stack₀ stack₀ true m n
+module _ {readAt : ℕ → NodeRecord} {len n from : ℕ} where
+  pub growing-none : {stack : List ℕ} (m : ℕ) → m ≡ length stack → Growing readAt len n from stack true m n
   unfolding recordsFrom rowOf entries closed allPlaced
-  growing-none m e = let none : n - n ≡ 0 = omega arith in
+  growing-none {stack} m e = let none : n - n ≡ 0 = omega arith in
       record {
         within = omega arith;
-        long = refl;
         inside = omega arith;
         room = omega arith;
-        same = rw (none, e) (drop-length stack₀);
+        same = rw (none, e) (drop-length stack);
         judged = rw none;
       }
 
   pub growing-more : {stack : List ℕ} {good : Bool} {top i : ℕ} (x : NodeRecord) (g : Bool) (e t j : ℕ)
-      → Growing readAt len n from stack₀ stack good top i → i ≡ j + 1 → n ≤ length stack₀ → x ≡ readAt (from + len * j)
+      → Growing readAt len n from stack good top i → i ≡ j + 1 → n ≤ length stack → x ≡ readAt (from + len * j)
       → g ≡ childrenStand x (drop top stack) → e ≡ nodeEntry x (drop top stack) → t + 1 ≡ top + min (x .children) (length stack - top)
-      → Growing readAt len n from stack₀ (set stack t e) (g && good) t j
+      → Growing readAt len n from (set stack t e) (g && good) t j
   unfolding rowOf
   growing-more {stack} {good} {top} {i} x g e t j p ei long ex eg ee et = record {
     within = omega arith;
-    long = length-set stack t e ∙ p .long;
     inside = omega (arith, length-set stack t e);
     room = omega (arith, length-set stack t e);
     same =
@@ -63,10 +53,10 @@ module _ {readAt : ℕ → NodeRecord} {len n from : ℕ} {stack₀ : List ℕ} 
         (rw (eg, p .same, p .judged) (grown-good x _));
   }
 
-  pub growing-all : {stack : List ℕ} {good : Bool} {top i : ℕ} → Growing readAt len n from stack₀ stack good top i → i ≤ 0
+  pub growing-all : {stack : List ℕ} {good : Bool} {top i : ℕ} → Growing readAt len n from stack good top i → i ≤ 0
       → drop top stack ≡ entries (rowOf (recordsFrom readAt len n from))
   growing-all {i = i} p h = p .same ∙ ap (λ (rs : List NodeRecord). entries (rowOf rs)) (all-left readAt len n from i h)
 
-  pub growing-good : {stack : List ℕ} {good : Bool} {top i : ℕ} → Growing readAt len n from stack₀ stack good top i → i ≤ 0
+  pub growing-good : {stack : List ℕ} {good : Bool} {top i : ℕ} → Growing readAt len n from stack good top i → i ≤ 0
       → good ≡ (closed (recordsFrom readAt len n from) && allPlaced (rowOf (recordsFrom readAt len n from)))
   growing-good {i = i} p h = p .judged ∙ ap (λ (rs : List NodeRecord). closed rs && allPlaced (rowOf rs)) (all-left readAt len n from i h)

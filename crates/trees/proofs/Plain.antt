@@ -2,16 +2,18 @@
 use mathlib.Core.Path.{_≡_, refl, sym, ap, ap₂, _∙_}
 use mathlib.Core.Bool.{Bool, true, false, cond, _&&_, _||_, not, and-false, true≢false}
 use mathlib.Core.List.{List, [], _∷_}
-use Prim.Native.Nat.{ℕ, _+_, _/_}
-use lib.ListN.{length, take}
-use lib.Dec.{eqb, leb}
-use borrow.Author.Tests.{ne-eqb, le-leb, not-true}
+use Prim.Native.Nat.{ℕ, _+_, _/_, _%_, _≤_}
+use native.Mathlib.Omega.{arith}
+use lib.ListN.{length, getD, take, drop, length-drop}
+use lib.Dec.{eqb, ltb, leb}
+use borrow.Author.Tests.{ne-eqb, le-leb, ltb-true, lt-ltb, not-true}
 use Rattle.records.specs.Flags.{optional}
-use Rattle.records.specs.Records.{everyFrom}
+use Rattle.records.specs.Records.{recordsFrom, everyFrom, every}
 use Rattle.records.specs.Place.{isExpression, mayStand}
 use Rattle.records.specs.declared.layout.NodeRecord.{NodeRecord}
 use Rattle.records.proofs.Tests.{both}
-use Rattle.trees.specs.Stack.{entry, entryLoose, childStands, firstLoose, rootStands, childrenStand, nodeEntry, TakesExpressions, RootsFollow}
+use Rattle.trees.proofs.Stacks.{entries-part}
+use Rattle.trees.specs.Stack.{entry, entryAt, entryLoose, childStands, firstLoose, rootStands, childrenStand, nodeEntry, TakesExpressions, RootsFollow}
 
 -- all kinds but a chain, an assignment, an object and a property
 abbrev pub takes : ℕ → Bool
@@ -53,3 +55,17 @@ module _ (n : NodeRecord) (es : List ℕ) (many : ℕ) (all : many ≡ n .childr
   pub plain-entry : optional (n .flags) ≡ false → nodeEntry n es ≡ entry (n .kind) false
   unfolding nodeEntry
   plain-entry e = rw (← all, e, roots-tight 0 (take many es) (f .1), and-false)
+
+-- an expression that isn't loose, by its entry
+low-root : (e : ℕ) → (e % 2 ≡ 1 → ⊥) → ltb e 50 ≡ true → rootStands e ≡ true
+unfolding rootStands isExpression
+low-root e n h = let l = ltb-true e 50 h in rw (lt-ltb (e / 2) 25 (omega (arith, l)), ne-eqb (e % 2) 1 n)
+
+-- a single tree
+pub one-follows : (stack : List ℕ) (top : ℕ) → top + 1 ≤ length stack → (getD stack top 0 % 2 ≡ 1 → ⊥) → ltb (getD stack top 0) 50 ≡ true
+    → RootsFollow 1 (drop top stack)
+unfolding recordsFrom entryAt everyFrom
+one-follows stack top h n l = (
+  omega (arith, length-drop top stack),
+  ap (every rootStands) (sym (entries-part stack 1 top h)) ∙ rw (low-root (getD stack top 0) n l),
+)

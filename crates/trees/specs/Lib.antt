@@ -1,2 +1,3 @@
 -- What is kept of trees while they are checked.
 pub mod Stack
+pub mod Growing

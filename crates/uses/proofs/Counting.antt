@@ -11,19 +11,11 @@ use Rattle.records.specs.Tree.{Node, Trees, firsts, nodeOf, rowOf}
 use Rattle.records.specs.Count.{targetName, nameRead, usesOf, readsOf, targetsOf}
 use Rattle.records.specs.declared.layout.NodeRecord.{NodeRecord}
 use Rattle.records.proofs.Series.{records-length}
+use Rattle.uses.specs.Counting.{Counting}
 use Rattle.uses.specs.Tally.{Tally, headTarget, recordRead}
 use Rattle.records.proofs.Behind.{one-more, all-left}
 use Rattle.uses.proofs.Uses.{uses-grown, read-record}
 use Rattle.uses.proofs.Tallies.{tally-low}
-
--- i of n nodes are left; the arrays hold the uses of names in the trees of the others
-pub record Counting (readAt : ℕ → NodeRecord) (len n from : ℕ) (reads₀ targets₀ reads targets : List ℕ) (next i : ℕ) : Type 0 where
-  pub within : i ≤ n
-  pub long : length reads ≡ length reads₀
-  pub wide : length targets ≡ length targets₀
-  pub read : Tally (λ k. readsOf k (rowOf (recordsFrom readAt len (n - i) (from + len * i)))) reads
-  pub target : Tally (λ k. targetsOf k (rowOf (recordsFrom readAt len (n - i) (from + len * i)))) targets
-  pub ahead : next ≡ headTarget (recordsFrom readAt len (n - i) (from + len * i))
 
 -- a tally with one record more, whose node names this name
 tally-more : (named : Node → Trees → ℕ) (x : NodeRecord) (rs : List NodeRecord) (xs ys : List ℕ) (name : ℕ) → length ys ≡ length xs
@@ -33,29 +25,25 @@ unfolding rowOf
 tally-more named x rs xs ys name el en t u k h =
     u k h ∙ rw (t k (omega arith), en) (sym (uses-grown named k x (rowOf rs)))
 
-module _ {readAt : ℕ → NodeRecord} {len n from : ℕ} {reads₀ targets₀ : List ℕ} where
-  pub counting-none : Tally (λ k. 0) reads₀ → Tally (λ k. 0) targets₀ → Counting readAt len n from reads₀ targets₀ reads₀ targets₀ 65535 n
+module _ {readAt : ℕ → NodeRecord} {len n from : ℕ} where
+  pub counting-none : {reads targets : List ℕ} → Tally (λ k. 0) reads → Tally (λ k. 0) targets → Counting readAt len n from reads targets 65535 n
   unfolding recordsFrom rowOf usesOf headTarget
   counting-none r t = let none : n - n ≡ 0 = omega arith in
       record {
         within = omega arith;
-        long = refl;
-        wide = refl;
         read = rw none r;
         target = rw none t;
         ahead = rw none;
       }
 
   pub counting-more : {reads targets : List ℕ} {next i : ℕ} (reads' targets' : List ℕ) (x : NodeRecord) (name next' j : ℕ)
-      → Counting readAt len n from reads₀ targets₀ reads targets next i → i ≡ j + 1 → x ≡ readAt (from + len * j)
+      → Counting readAt len n from reads targets next i → i ≡ j + 1 → x ≡ readAt (from + len * j)
       → name ≡ recordRead x next → next' ≡ targetName (nodeOf x) → length reads' ≡ length reads → length targets' ≡ length targets
       → Tally (λ k. one (eqb name k) + getD reads k 0) reads' → Tally (λ k. one (eqb next' k) + getD targets k 0) targets'
-      → Counting readAt len n from reads₀ targets₀ reads' targets' next' j
+      → Counting readAt len n from reads' targets' next' j
   unfolding headTarget
   counting-more {reads} {targets} {next} {i} reads' targets' x name next' j p ei ex en et lr lt tr tt' = record {
     within = omega arith;
-    long = lr ∙ p .long;
-    wide = lt ∙ p .wide;
     read =
         rw (one-more readAt len n from i j ei (p .within), ← ex)
         (tally-more nameRead x _ reads reads' name lr (en ∙ ap (recordRead x) (p .ahead) ∙ sym (read-record x _)) (p .read) tr);
@@ -66,19 +54,19 @@ module _ {readAt : ℕ → NodeRecord} {len n from : ℕ} {reads₀ targets₀ :
   }
 
   -- no count reaches the number of nodes
-  pub reads-low : {reads targets : List ℕ} {next i : ℕ} → Counting readAt len n from reads₀ targets₀ reads targets next i → (k : ℕ) → getD reads k 0 ≤ n - i
+  pub reads-low : {reads targets : List ℕ} {next i : ℕ} → Counting readAt len n from reads targets next i → (k : ℕ) → getD reads k 0 ≤ n - i
   reads-low {reads} {i = i} p k =
       rw (← records-length readAt len (n - i) (from + len * i)) (tally-low nameRead (recordsFrom readAt len (n - i) (from + len * i)) reads (p .read) k)
 
-  pub targets-low : {reads targets : List ℕ} {next i : ℕ} → Counting readAt len n from reads₀ targets₀ reads targets next i → (k : ℕ) → getD targets k 0 ≤ n - i
+  pub targets-low : {reads targets : List ℕ} {next i : ℕ} → Counting readAt len n from reads targets next i → (k : ℕ) → getD targets k 0 ≤ n - i
   targets-low {targets = targets} {i = i} p k =
       rw (← records-length readAt len (n - i) (from + len * i))
       (tally-low (λ m kids. targetName m) (recordsFrom readAt len (n - i) (from + len * i)) targets (p .target) k)
 
-  pub counted-reads : {reads targets : List ℕ} {next i : ℕ} → Counting readAt len n from reads₀ targets₀ reads targets next i → i ≤ 0
+  pub counted-reads : {reads targets : List ℕ} {next i : ℕ} → Counting readAt len n from reads targets next i → i ≤ 0
       → Tally (λ k. readsOf k (rowOf (recordsFrom readAt len n from))) reads
   counted-reads {i = i} p h = rw (← all-left readAt len n from i h) (p .read)
 
-  pub counted-targets : {reads targets : List ℕ} {next i : ℕ} → Counting readAt len n from reads₀ targets₀ reads targets next i → i ≤ 0
+  pub counted-targets : {reads targets : List ℕ} {next i : ℕ} → Counting readAt len n from reads targets next i → i ≤ 0
       → Tally (λ k. targetsOf k (rowOf (recordsFrom readAt len n from))) targets
   counted-targets {i = i} p h = rw (← all-left readAt len n from i h) (p .target)

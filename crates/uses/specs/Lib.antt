@@ -1,2 +1,3 @@
 -- What is counted for each name.
 pub mod Tally
+pub mod Counting

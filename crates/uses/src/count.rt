@@ -1,18 +1,17 @@
-// Row 10 of the refusal table: reads and targets of each name, in one pass over the nodes.
+// Row 10 of the refusal table: the names that a node reads and targets, and the uses of each name against its facts.
 ghost use mathlib.Core.Path.{_≡_};
 ghost use Prim.Native.Nat.{_+_, _*_, _≤_, _<_};
 ghost use lib.ListN.{length, getD};
 ghost use lib.Dec.{eqb};
-ghost use Rattle.records.specs.Record.{nameAt, nodeAt};
+ghost use Rattle.records.specs.Record.{nameAt};
 ghost use Rattle.records.specs.Records.{recordsFrom, everyFrom};
 ghost use Rattle.records.specs.File.{one as oneOf};
-ghost use Rattle.records.specs.Tree.{nodeOf, rowOf};
-ghost use Rattle.records.specs.Count.{targetName, readsOf, targetsOf, goodCounts};
+ghost use Rattle.records.specs.Tree.{nodeOf};
+ghost use Rattle.records.specs.Count.{targetName, goodCounts};
 ghost use Rattle.uses.specs.Tally.{Tally, recordRead};
 use records::layout::NameFacts;
 use records::layout::NodeRecord;
 use records::layout::name_at;
-use records::layout::node_at;
 use records::limits::NO_NUMBER;
 use records::number::size;
 use records::number::wide16;
@@ -55,26 +54,6 @@ pub fn bump(uses: &mut [u16], name: u16)
     let at = size(name);
     if at < uses.len() {
         uses[at] += 1;
-    }
-}
-
-// How often each name is read, and how often it is a target.
-pub fn count_uses(file: &[u8], from: usize, count: usize, reads: &mut [u16], targets: &mut [u16])
-    requires { ⌜ from + 12 * count ≤ length (now file) ⌝ }
-    requires { ⌜ count ≤ 65535 ⌝ }
-    requires { ⌜ Tally (λ k. 0) (now reads) ⌝ }
-    requires { ⌜ Tally (λ k. 0) (now targets) ⌝ }
-    ensures { λ _. ⌜ Tally (λ k. readsOf k (rowOf (recordsFrom (nodeAt (now (file .entry))) 12 count from))) (now (reads .exit)) ⌝ }
-    ensures { λ _. ⌜ Tally (λ k. targetsOf k (rowOf (recordsFrom (nodeAt (now (file .entry))) 12 count from))) (now (targets .exit)) ⌝ }
-{
-    let mut next = NO_NUMBER;
-    let mut i = count;
-    while 0 < i {
-        i -= 1;
-        let n = node_at(file, from + 12 * i);
-        bump(reads, name_read(n, next));
-        next = target_name(n);
-        bump(targets, next);
     }
 }
 

@@ -1,11 +1,19 @@
 -- `refusal::check::check` meets its contract. Assumes nothing.
 use mathlib.Core.Path.{sym, _∙_}
-use native.Mathlib.Nat.{le-trans}
+use native.Mathlib.Omega.{arith}
 use Rattle.records.specs.Refusal.{refusal}
 use Rattle.refusal.proofs.Limits.{names-fit, length-said, file-declarators-fit}
 use borrow.Author.Needs.{needs}
 use Rattle.refusal.proofs.check.check.Statement.{statement}
 use Rattle.refusal.proofs.check.check.Tie as tie
+use Rattle.refusal.proofs.check.check.Reads as reads
+use Rattle.refusal.proofs.check.check.Lts as lts
+use Rattle.refusal.proofs.file_rows.counts_are_bad.Reads as counts-are-bad-reads
+use Rattle.refusal.proofs.file_rows.facts_are_bad.Reads as facts-are-bad-reads
+use Rattle.refusal.proofs.file_rows.names_are_declared_twice.Reads as names-are-declared-twice-reads
+use Rattle.refusal.proofs.file_rows.node_rows.Reads as node-rows-reads
+use Rattle.refusal.proofs.file_rows.room_is_short.Reads as room-is-short-reads
+use Rattle.refusal.proofs.file_rows.script_totals.Reads as script-totals-reads
 
 facts-are-bad-requires : tie.Need-facts-are-bad-requires
 facts-are-bad-requires c κs = (((c .before .before .before .before .before) .pre .0) .is, length-said ((c .before .before .before .before .before) .args .file .now) ((c .before .before .before .before .before) .args .h) (((c .before .before .before .before .before) .pre .0) .measured))
@@ -22,27 +30,13 @@ script-totals-requires c κs = (((c .before .before .before .before .before .bef
 
 returns-2 : tie.Need-returns-2
 unfolding refusal
-returns-2 c = rw (((c .before .before .before .before .before .before .before .before .before .before) .pre .0) .script, ← ((c .before .before .before .before .before .before .before .before .before .before) .pre .0) .is, ((c .before .before .before .before .before .before .before .before .before .before) .pre .0) .version, ((c .before .before .before .before .before .before .before .before .before .before) .pre .0) .limits, ((c .before .before .before .before .before .before .before .before .before .before) .pre .0) .measured, ← (c .before .before .before .before .facts-are-bad) .ensures, (c .before .before .if1) .left, ← ((c .before .script-totals) .ensures) .0, (c .if2) .taken)
+returns-2 c = rw (((c .before .before .before .before .before .before .before .before .before .before) .pre .0) .script, ← ((c .before .before .before .before .before .before .before .before .before .before) .pre .0) .is, ((c .before .before .before .before .before .before .before .before .before .before) .pre .0) .version, ((c .before .before .before .before .before .before .before .before .before .before) .pre .0) .limits, ((c .before .before .before .before .before .before .before .before .before .before) .pre .0) .measured, ← (c .before .before .before .before .facts-are-bad) .ensures, (c .before .before .if1) .left, ← (c .before .script-totals) .ensures .0, (c .if2) .taken)
 
-nodes-are-bad-requires : tie.Need-nodes-are-bad-requires
-nodes-are-bad-requires c κs = (((c .before .before .before .before .before .before .before .before .before .before) .pre .0) .is, length-said ((c .before .before .before .before .before .before .before .before .before .before) .args .file .now) ((c .before .before .before .before .before .before .before .before .before .before) .args .h) (((c .before .before .before .before .before .before .before .before .before .before) .pre .0) .measured))
-
-returns-3 : tie.Need-returns-3
-unfolding refusal
-returns-3 c = rw (((c .before .before .before .before .before .before .before .before .before .before .before .before) .pre .0) .script, ← ((c .before .before .before .before .before .before .before .before .before .before .before .before) .pre .0) .is, ((c .before .before .before .before .before .before .before .before .before .before .before .before) .pre .0) .version, ((c .before .before .before .before .before .before .before .before .before .before .before .before) .pre .0) .limits, ((c .before .before .before .before .before .before .before .before .before .before .before .before) .pre .0) .measured, ← (c .before .before .before .before .before .before .facts-are-bad) .ensures, (c .before .before .before .before .if1) .left, ← ((c .before .before .before .script-totals) .ensures) .0, (c .before .before .if2) .left, ← (c .before .nodes-are-bad) .ensures, (c .if3) .taken)
-
-trees-are-bad-requires : tie.Need-trees-are-bad-requires
-trees-are-bad-requires c κs = (((c .before .before .before .before .before .before .before .before .before .before .before .before .before) .pre .0) .is, (length-said ((c .before .before .before .before .before .before .before .before .before .before .before .before .before) .args .file .now) ((c .before .before .before .before .before .before .before .before .before .before .before .before .before) .args .h) (((c .before .before .before .before .before .before .before .before .before .before .before .before .before) .pre .0) .measured), (((c .before .before .before .before .script-totals) .ensures) .1, (c .before .before .before .before .before .before .before .before .before .before .before .before .before) .pre .1 .0)))
+node-rows-requires : tie.Need-node-rows-requires
+node-rows-requires c κs = ((c .before .before .before .before .before .before .before .before .before .before .before .before .before) .pre .0, ((c .before .before .before .before .script-totals) .ensures .1, ((c .before .before .before .before .before .before .before .before .before .before .before .before .before) .pre .1 .0, ((c .before .before .before .before .before .before .before .before .before .before .before .before .before) .pre .1 .1 .1 .1 .1 .1 .0, (c .before .before .before .before .before .before .before .before .before .before .before .before .before) .pre .1 .1 .1 .1 .1 .1 .1 .0))))
 
 same-length : tie.Need-same-length
 same-length c = search needs
-
-returns-4 : tie.Need-returns-4
-unfolding refusal
-returns-4 c = rw (((c .before .before .before .before .before .before .before .before .before .before .before .before .before .before .before .before .before) .pre .0) .script, ← ((c .before .before .before .before .before .before .before .before .before .before .before .before .before .before .before .before .before) .pre .0) .is, ((c .before .before .before .before .before .before .before .before .before .before .before .before .before .before .before .before .before) .pre .0) .version, ((c .before .before .before .before .before .before .before .before .before .before .before .before .before .before .before .before .before) .pre .0) .limits, ((c .before .before .before .before .before .before .before .before .before .before .before .before .before .before .before .before .before) .pre .0) .measured, ← (c .before .before .before .before .before .before .before .before .before .before .before .facts-are-bad) .ensures, (c .before .before .before .before .before .before .before .before .before .if1) .left, ← ((c .before .before .before .before .before .before .before .before .script-totals) .ensures) .0, (c .before .before .before .before .before .before .before .if2) .left, ← (c .before .before .before .before .before .before .nodes-are-bad) .ensures, (c .before .before .before .before .before .if3) .left, ← (c .before .before .before .trees-are-bad) .ensures, (c .if4) .taken)
-
-names-are-declared-twice-requires : tie.Need-names-are-declared-twice-requires
-names-are-declared-twice-requires c κs = (((c .before .before .before .before .before .before .before .before .before .before .before .before .before .before .before .before .before .before) .pre .0) .is, (length-said ((c .before .before .before .before .before .before .before .before .before .before .before .before .before .before .before .before .before .before) .args .file .now) ((c .before .before .before .before .before .before .before .before .before .before .before .before .before .before .before .before .before .before) .args .h) (((c .before .before .before .before .before .before .before .before .before .before .before .before .before .before .before .before .before .before) .pre .0) .measured), (file-declarators-fit ((c .before .before .before .before .before .before .before .before .before .before .before .before .before .before .before .before .before .before) .args .file .now) ((c .before .before .before .before .before .before .before .before .before .before .before .before .before .before .before .before .before .before) .args .h) (((c .before .before .before .before .before .before .before .before .before .before .before .before .before .before .before .before .before .before) .pre .0) .is) (((c .before .before .before .before .before .before .before .before .before .before .before .before .before .before .before .before .before .before) .pre .0) .limits) (sym (((c .before .before .before .before .before .before .before .before .before .script-totals) .ensures) .0) ∙ (c .before .before .before .before .before .before .before .before .if2) .left), ((c .before .before .before .before .before .before .before .before .before .before .before .before .before .before .before .before .before .before) .pre .1 .1 .1 .1 .0, ((c .before .before .before .before .before .before .before .before .before .before .before .before .before .before .before .before .before .before) .pre .1 .1 .1 .1 .1 .0, (c .before .before .before .before .before .before .before .before .before .before .before .before .before .before .before .before .before .before) .pre .1 .1 .1 .1 .1 .1 .1 .1)))))
 
 same-length-2 : tie.Need-same-length-2
 same-length-2 c = search needs
@@ -50,12 +44,9 @@ same-length-2 c = search needs
 same-length-3 : tie.Need-same-length-3
 same-length-3 c = search needs
 
-returns-5 : tie.Need-returns-5
+returns-3 : tie.Need-returns-3
 unfolding refusal
-returns-5 c = rw (((c .before .before .before .before .before .before .before .before .before .before .before .before .before .before .before .before .before .before .before .before .before .before) .pre .0) .script, ← ((c .before .before .before .before .before .before .before .before .before .before .before .before .before .before .before .before .before .before .before .before .before .before) .pre .0) .is, ((c .before .before .before .before .before .before .before .before .before .before .before .before .before .before .before .before .before .before .before .before .before .before) .pre .0) .version, ((c .before .before .before .before .before .before .before .before .before .before .before .before .before .before .before .before .before .before .before .before .before .before) .pre .0) .limits, ((c .before .before .before .before .before .before .before .before .before .before .before .before .before .before .before .before .before .before .before .before .before .before) .pre .0) .measured, ← (c .before .before .before .before .before .before .before .before .before .before .before .before .before .before .before .before .facts-are-bad) .ensures, (c .before .before .before .before .before .before .before .before .before .before .before .before .before .before .if1) .left, ← ((c .before .before .before .before .before .before .before .before .before .before .before .before .before .script-totals) .ensures) .0, (c .before .before .before .before .before .before .before .before .before .before .before .before .if2) .left, ← (c .before .before .before .before .before .before .before .before .before .before .before .nodes-are-bad) .ensures, (c .before .before .before .before .before .before .before .before .before .before .if3) .left, ← (c .before .before .before .before .before .before .before .before .trees-are-bad) .ensures, (c .before .before .before .before .before .if4) .left, ← (c .before .before .before .names-are-declared-twice) .ensures, (c .if5) .taken)
-
-counts-are-bad-requires : tie.Need-counts-are-bad-requires
-counts-are-bad-requires c κs = (((c .before .before .before .before .before .before .before .before .before .before .before .before .before .before .before .before .before .before .before .before .before .before .before .before) .pre .0) .is, (length-said ((c .before .before .before .before .before .before .before .before .before .before .before .before .before .before .before .before .before .before .before .before .before .before .before .before) .args .file .now) ((c .before .before .before .before .before .before .before .before .before .before .before .before .before .before .before .before .before .before .before .before .before .before .before .before) .args .h) (((c .before .before .before .before .before .before .before .before .before .before .before .before .before .before .before .before .before .before .before .before .before .before .before .before) .pre .0) .measured), (le-trans (names-fit ((c .before .before .before .before .before .before .before .before .before .before .before .before .before .before .before .before .before .before .before .before .before .before .before .before) .args .h) (((c .before .before .before .before .before .before .before .before .before .before .before .before .before .before .before .before .before .before .before .before .before .before .before .before) .pre .0) .limits)) ((c .before .before .before .before .before .before .before .before .before .before .before .before .before .before .before .before .before .before .before .before .before .before .before .before) .pre .1 .1 .0), (le-trans (names-fit ((c .before .before .before .before .before .before .before .before .before .before .before .before .before .before .before .before .before .before .before .before .before .before .before .before) .args .h) (((c .before .before .before .before .before .before .before .before .before .before .before .before .before .before .before .before .before .before .before .before .before .before .before .before) .pre .0) .limits)) ((c .before .before .before .before .before .before .before .before .before .before .before .before .before .before .before .before .before .before .before .before .before .before .before .before) .pre .1 .1 .1 .0), ((c .before .before .before .before .before .before .before .before .before .before .before .before .before .before .before .before .before .before .before .before .before .before .before .before) .pre .1 .1 .1 .1 .1 .1 .0, (c .before .before .before .before .before .before .before .before .before .before .before .before .before .before .before .before .before .before .before .before .before .before .before .before) .pre .1 .1 .1 .1 .1 .1 .1 .0)))))
+returns-3 c = rw (((c .before .before .before .before .before .before .before .before .before .before .before .before .before .before .before .before .before .before .before .before .before) .pre .0) .script, ← ((c .before .before .before .before .before .before .before .before .before .before .before .before .before .before .before .before .before .before .before .before .before) .pre .0) .is, ((c .before .before .before .before .before .before .before .before .before .before .before .before .before .before .before .before .before .before .before .before .before) .pre .0) .version, ((c .before .before .before .before .before .before .before .before .before .before .before .before .before .before .before .before .before .before .before .before .before) .pre .0) .limits, ((c .before .before .before .before .before .before .before .before .before .before .before .before .before .before .before .before .before .before .before .before .before) .pre .0) .measured, ← (c .before .before .before .before .before .before .before .before .before .before .before .before .before .before .before .facts-are-bad) .ensures, (c .before .before .before .before .before .before .before .before .before .before .before .before .before .if1) .left, ← (c .before .before .before .before .before .before .before .before .before .before .before .before .script-totals) .ensures .0, (c .before .before .before .before .before .before .before .before .before .before .before .if2) .left, ← (c .before .before .before .before .before .before .before .node-rows) .ensures .0, (c .if3) .taken)
 
 same-length-4 : tie.Need-same-length-4
 same-length-4 c = search needs
@@ -66,12 +57,15 @@ same-length-5 c = search needs
 same-length-6 : tie.Need-same-length-6
 same-length-6 c = search needs
 
+returns-4 : tie.Need-returns-4
+unfolding refusal
+returns-4 c = rw (((c .before .before .before .before .before .before .before .before .before .before .before .before .before .before .before .before .before .before .before .before .before .before) .pre .0) .script, ← ((c .before .before .before .before .before .before .before .before .before .before .before .before .before .before .before .before .before .before .before .before .before .before) .pre .0) .is, ((c .before .before .before .before .before .before .before .before .before .before .before .before .before .before .before .before .before .before .before .before .before .before) .pre .0) .version, ((c .before .before .before .before .before .before .before .before .before .before .before .before .before .before .before .before .before .before .before .before .before .before) .pre .0) .limits, ((c .before .before .before .before .before .before .before .before .before .before .before .before .before .before .before .before .before .before .before .before .before .before) .pre .0) .measured, ← (c .before .before .before .before .before .before .before .before .before .before .before .before .before .before .before .before .facts-are-bad) .ensures, (c .before .before .before .before .before .before .before .before .before .before .before .before .before .before .if1) .left, ← (c .before .before .before .before .before .before .before .before .before .before .before .before .before .script-totals) .ensures .0, (c .before .before .before .before .before .before .before .before .before .before .before .before .if2) .left, ← (c .before .before .before .before .before .before .before .before .node-rows) .ensures .0, (c .before .if3) .left, ← (c .before .before .before .before .before .before .before .before .node-rows) .ensures .1 .0, (c .if4) .taken)
+
+names-are-declared-twice-requires : tie.Need-names-are-declared-twice-requires
+names-are-declared-twice-requires c κs = (((c .before .before .before .before .before .before .before .before .before .before .before .before .before .before .before .before .before .before .before .before .before .before .before) .pre .0) .is, (length-said ((c .before .before .before .before .before .before .before .before .before .before .before .before .before .before .before .before .before .before .before .before .before .before .before) .args .file .now) ((c .before .before .before .before .before .before .before .before .before .before .before .before .before .before .before .before .before .before .before .before .before .before .before) .args .h) (((c .before .before .before .before .before .before .before .before .before .before .before .before .before .before .before .before .before .before .before .before .before .before .before) .pre .0) .measured), (file-declarators-fit ((c .before .before .before .before .before .before .before .before .before .before .before .before .before .before .before .before .before .before .before .before .before .before .before) .args .file .now) ((c .before .before .before .before .before .before .before .before .before .before .before .before .before .before .before .before .before .before .before .before .before .before .before) .args .h) (((c .before .before .before .before .before .before .before .before .before .before .before .before .before .before .before .before .before .before .before .before .before .before .before) .pre .0) .is) (((c .before .before .before .before .before .before .before .before .before .before .before .before .before .before .before .before .before .before .before .before .before .before .before) .pre .0) .limits) (sym ((c .before .before .before .before .before .before .before .before .before .before .before .before .before .before .script-totals) .ensures .0) ∙ (c .before .before .before .before .before .before .before .before .before .before .before .before .before .if2) .left), ((c .before .before .before .before .before .before .before .before .before .before .before .before .before .before .before .before .before .before .before .before .before .before .before) .pre .1 .1 .1 .1 .0, ((c .before .before .before .before .before .before .before .before .before .before .before .before .before .before .before .before .before .before .before .before .before .before .before) .pre .1 .1 .1 .1 .1 .0, (c .before .before .before .before .before .before .before .before .before .before .before .before .before .before .before .before .before .before .before .before .before .before .before) .pre .1 .1 .1 .1 .1 .1 .1 .1)))))
+
 same-length-7 : tie.Need-same-length-7
 same-length-7 c = search needs
-
-returns-6 : tie.Need-returns-6
-unfolding refusal
-returns-6 c = rw (((c .before .before .before .before .before .before .before .before .before .before .before .before .before .before .before .before .before .before .before .before .before .before .before .before .before .before .before .before .before .before) .pre .0) .script, ← ((c .before .before .before .before .before .before .before .before .before .before .before .before .before .before .before .before .before .before .before .before .before .before .before .before .before .before .before .before .before .before) .pre .0) .is, ((c .before .before .before .before .before .before .before .before .before .before .before .before .before .before .before .before .before .before .before .before .before .before .before .before .before .before .before .before .before .before) .pre .0) .version, ((c .before .before .before .before .before .before .before .before .before .before .before .before .before .before .before .before .before .before .before .before .before .before .before .before .before .before .before .before .before .before) .pre .0) .limits, ((c .before .before .before .before .before .before .before .before .before .before .before .before .before .before .before .before .before .before .before .before .before .before .before .before .before .before .before .before .before .before) .pre .0) .measured, ← (c .before .before .before .before .before .before .before .before .before .before .before .before .before .before .before .before .before .before .before .before .before .before .before .before .facts-are-bad) .ensures, (c .before .before .before .before .before .before .before .before .before .before .before .before .before .before .before .before .before .before .before .before .before .before .if1) .left, ← ((c .before .before .before .before .before .before .before .before .before .before .before .before .before .before .before .before .before .before .before .before .before .script-totals) .ensures) .0, (c .before .before .before .before .before .before .before .before .before .before .before .before .before .before .before .before .before .before .before .before .if2) .left, ← (c .before .before .before .before .before .before .before .before .before .before .before .before .before .before .before .before .before .before .before .nodes-are-bad) .ensures, (c .before .before .before .before .before .before .before .before .before .before .before .before .before .before .before .before .before .before .if3) .left, ← (c .before .before .before .before .before .before .before .before .before .before .before .before .before .before .before .before .trees-are-bad) .ensures, (c .before .before .before .before .before .before .before .before .before .before .before .before .before .if4) .left, ← (c .before .before .before .before .before .before .before .before .before .before .before .names-are-declared-twice) .ensures, (c .before .before .before .before .before .before .before .before .if5) .left, ← (c .before .before .before .before .before .counts-are-bad) .ensures, (c .if6) .taken)
 
 same-length-8 : tie.Need-same-length-8
 same-length-8 c = search needs
@@ -82,12 +76,15 @@ same-length-9 c = search needs
 same-length-10 : tie.Need-same-length-10
 same-length-10 c = search needs
 
+returns-5 : tie.Need-returns-5
+unfolding refusal
+returns-5 c = rw (((c .before .before .before .before .before .before .before .before .before .before .before .before .before .before .before .before .before .before .before .before .before .before .before .before .before .before .before) .pre .0) .script, ← ((c .before .before .before .before .before .before .before .before .before .before .before .before .before .before .before .before .before .before .before .before .before .before .before .before .before .before .before) .pre .0) .is, ((c .before .before .before .before .before .before .before .before .before .before .before .before .before .before .before .before .before .before .before .before .before .before .before .before .before .before .before) .pre .0) .version, ((c .before .before .before .before .before .before .before .before .before .before .before .before .before .before .before .before .before .before .before .before .before .before .before .before .before .before .before) .pre .0) .limits, ((c .before .before .before .before .before .before .before .before .before .before .before .before .before .before .before .before .before .before .before .before .before .before .before .before .before .before .before) .pre .0) .measured, ← (c .before .before .before .before .before .before .before .before .before .before .before .before .before .before .before .before .before .before .before .before .before .facts-are-bad) .ensures, (c .before .before .before .before .before .before .before .before .before .before .before .before .before .before .before .before .before .before .before .if1) .left, ← (c .before .before .before .before .before .before .before .before .before .before .before .before .before .before .before .before .before .before .script-totals) .ensures .0, (c .before .before .before .before .before .before .before .before .before .before .before .before .before .before .before .before .before .if2) .left, ← (c .before .before .before .before .before .before .before .before .before .before .before .before .before .node-rows) .ensures .0, (c .before .before .before .before .before .before .if3) .left, ← (c .before .before .before .before .before .before .before .before .before .before .before .before .before .node-rows) .ensures .1 .0, (c .before .before .before .before .before .if4) .left, ← (c .before .before .before .names-are-declared-twice) .ensures, (c .if5) .taken)
+
+counts-are-bad-requires : tie.Need-counts-are-bad-requires
+counts-are-bad-requires c κs = (((c .before .before .before .before .before .before .before .before .before .before .before .before .before .before .before .before .before .before .before .before .before .before .before .before .before .before .before .before .before) .pre .0) .is, (length-said ((c .before .before .before .before .before .before .before .before .before .before .before .before .before .before .before .before .before .before .before .before .before .before .before .before .before .before .before .before .before) .args .file .now) ((c .before .before .before .before .before .before .before .before .before .before .before .before .before .before .before .before .before .before .before .before .before .before .before .before .before .before .before .before .before) .args .h) (((c .before .before .before .before .before .before .before .before .before .before .before .before .before .before .before .before .before .before .before .before .before .before .before .before .before .before .before .before .before) .pre .0) .measured), (omega (arith, names-fit ((c .before .before .before .before .before .before .before .before .before .before .before .before .before .before .before .before .before .before .before .before .before .before .before .before .before .before .before .before .before) .args .h) (((c .before .before .before .before .before .before .before .before .before .before .before .before .before .before .before .before .before .before .before .before .before .before .before .before .before .before .before .before .before) .pre .0) .limits), (c .before .before .before .before .before .before .before .before .before .before .before .before .before .before .before .before .before .before .before .before .before .before .before .before .before .before .before .before .before) .pre .1 .1 .0), (omega (arith, names-fit ((c .before .before .before .before .before .before .before .before .before .before .before .before .before .before .before .before .before .before .before .before .before .before .before .before .before .before .before .before .before) .args .h) (((c .before .before .before .before .before .before .before .before .before .before .before .before .before .before .before .before .before .before .before .before .before .before .before .before .before .before .before .before .before) .pre .0) .limits), (c .before .before .before .before .before .before .before .before .before .before .before .before .before .before .before .before .before .before .before .before .before .before .before .before .before .before .before .before .before) .pre .1 .1 .1 .0), ((c .before .before .before .before .before .before .before .before .before .before .before .before .before .before .before .node-rows) .ensures .1 .1 .0, (c .before .before .before .before .before .before .before .before .before .before .before .before .before .before .before .node-rows) .ensures .1 .1 .1)))))
+
 same-length-11 : tie.Need-same-length-11
 same-length-11 c = search needs
-
-returns-7 : tie.Need-returns-7
-unfolding refusal
-returns-7 c = rw (((c .before .before .before .before .before .before .before .before .before .before .before .before .before .before .before .before .before .before .before .before .before .before .before .before .before .before .before .before .before .before .before) .pre .0) .script, ← ((c .before .before .before .before .before .before .before .before .before .before .before .before .before .before .before .before .before .before .before .before .before .before .before .before .before .before .before .before .before .before .before) .pre .0) .is, ((c .before .before .before .before .before .before .before .before .before .before .before .before .before .before .before .before .before .before .before .before .before .before .before .before .before .before .before .before .before .before .before) .pre .0) .version, ((c .before .before .before .before .before .before .before .before .before .before .before .before .before .before .before .before .before .before .before .before .before .before .before .before .before .before .before .before .before .before .before) .pre .0) .limits, ((c .before .before .before .before .before .before .before .before .before .before .before .before .before .before .before .before .before .before .before .before .before .before .before .before .before .before .before .before .before .before .before) .pre .0) .measured, ← (c .before .before .before .before .before .before .before .before .before .before .before .before .before .before .before .before .before .before .before .before .before .before .before .before .before .facts-are-bad) .ensures, (c .before .before .before .before .before .before .before .before .before .before .before .before .before .before .before .before .before .before .before .before .before .before .before .if1) .left, ← ((c .before .before .before .before .before .before .before .before .before .before .before .before .before .before .before .before .before .before .before .before .before .before .script-totals) .ensures) .0, (c .before .before .before .before .before .before .before .before .before .before .before .before .before .before .before .before .before .before .before .before .before .if2) .left, ← (c .before .before .before .before .before .before .before .before .before .before .before .before .before .before .before .before .before .before .before .before .nodes-are-bad) .ensures, (c .before .before .before .before .before .before .before .before .before .before .before .before .before .before .before .before .before .before .before .if3) .left, ← (c .before .before .before .before .before .before .before .before .before .before .before .before .before .before .before .before .before .trees-are-bad) .ensures, (c .before .before .before .before .before .before .before .before .before .before .before .before .before .before .if4) .left, ← (c .before .before .before .before .before .before .before .before .before .before .before .before .names-are-declared-twice) .ensures, (c .before .before .before .before .before .before .before .before .before .if5) .left, ← (c .before .before .before .before .before .before .counts-are-bad) .ensures, (c .before .if6) .left, ← (c .before .before .before .before .before .before .before .before .before .before .before .before .before .before .before .before .before .before .before .before .before .before .before .before .room-is-short) .ensures, (c .if7) .taken)
 
 same-length-12 : tie.Need-same-length-12
 same-length-12 c = search needs
@@ -98,12 +95,41 @@ same-length-13 c = search needs
 same-length-14 : tie.Need-same-length-14
 same-length-14 c = search needs
 
+returns-6 : tie.Need-returns-6
+unfolding refusal
+returns-6 c = rw (((c .before .before .before .before .before .before .before .before .before .before .before .before .before .before .before .before .before .before .before .before .before .before .before .before .before .before .before .before .before .before .before) .pre .0) .script, ← ((c .before .before .before .before .before .before .before .before .before .before .before .before .before .before .before .before .before .before .before .before .before .before .before .before .before .before .before .before .before .before .before) .pre .0) .is, ((c .before .before .before .before .before .before .before .before .before .before .before .before .before .before .before .before .before .before .before .before .before .before .before .before .before .before .before .before .before .before .before) .pre .0) .version, ((c .before .before .before .before .before .before .before .before .before .before .before .before .before .before .before .before .before .before .before .before .before .before .before .before .before .before .before .before .before .before .before) .pre .0) .limits, ((c .before .before .before .before .before .before .before .before .before .before .before .before .before .before .before .before .before .before .before .before .before .before .before .before .before .before .before .before .before .before .before) .pre .0) .measured, ← (c .before .before .before .before .before .before .before .before .before .before .before .before .before .before .before .before .before .before .before .before .before .before .before .before .before .facts-are-bad) .ensures, (c .before .before .before .before .before .before .before .before .before .before .before .before .before .before .before .before .before .before .before .before .before .before .before .if1) .left, ← (c .before .before .before .before .before .before .before .before .before .before .before .before .before .before .before .before .before .before .before .before .before .before .script-totals) .ensures .0, (c .before .before .before .before .before .before .before .before .before .before .before .before .before .before .before .before .before .before .before .before .before .if2) .left, ← (c .before .before .before .before .before .before .before .before .before .before .before .before .before .before .before .before .before .node-rows) .ensures .0, (c .before .before .before .before .before .before .before .before .before .before .if3) .left, ← (c .before .before .before .before .before .before .before .before .before .before .before .before .before .before .before .before .before .node-rows) .ensures .1 .0, (c .before .before .before .before .before .before .before .before .before .if4) .left, ← (c .before .before .before .before .before .before .before .names-are-declared-twice) .ensures, (c .before .before .before .before .if5) .left, ← (c .before .counts-are-bad) .ensures, (c .if6) .taken)
+
 same-length-15 : tie.Need-same-length-15
 same-length-15 c = search needs
 
+same-length-16 : tie.Need-same-length-16
+same-length-16 c = search needs
+
+same-length-17 : tie.Need-same-length-17
+same-length-17 c = search needs
+
+same-length-18 : tie.Need-same-length-18
+same-length-18 c = search needs
+
+returns-7 : tie.Need-returns-7
+unfolding refusal
+returns-7 c = rw (((c .before .before .before .before .before .before .before .before .before .before .before .before .before .before .before .before .before .before .before .before .before .before .before .before .before .before .before .before .before .before .before .before) .pre .0) .script, ← ((c .before .before .before .before .before .before .before .before .before .before .before .before .before .before .before .before .before .before .before .before .before .before .before .before .before .before .before .before .before .before .before .before) .pre .0) .is, ((c .before .before .before .before .before .before .before .before .before .before .before .before .before .before .before .before .before .before .before .before .before .before .before .before .before .before .before .before .before .before .before .before) .pre .0) .version, ((c .before .before .before .before .before .before .before .before .before .before .before .before .before .before .before .before .before .before .before .before .before .before .before .before .before .before .before .before .before .before .before .before) .pre .0) .limits, ((c .before .before .before .before .before .before .before .before .before .before .before .before .before .before .before .before .before .before .before .before .before .before .before .before .before .before .before .before .before .before .before .before) .pre .0) .measured, ← (c .before .before .before .before .before .before .before .before .before .before .before .before .before .before .before .before .before .before .before .before .before .before .before .before .before .before .facts-are-bad) .ensures, (c .before .before .before .before .before .before .before .before .before .before .before .before .before .before .before .before .before .before .before .before .before .before .before .before .if1) .left, ← (c .before .before .before .before .before .before .before .before .before .before .before .before .before .before .before .before .before .before .before .before .before .before .before .script-totals) .ensures .0, (c .before .before .before .before .before .before .before .before .before .before .before .before .before .before .before .before .before .before .before .before .before .before .if2) .left, ← (c .before .before .before .before .before .before .before .before .before .before .before .before .before .before .before .before .before .before .node-rows) .ensures .0, (c .before .before .before .before .before .before .before .before .before .before .before .if3) .left, ← (c .before .before .before .before .before .before .before .before .before .before .before .before .before .before .before .before .before .before .node-rows) .ensures .1 .0, (c .before .before .before .before .before .before .before .before .before .before .if4) .left, ← (c .before .before .before .before .before .before .before .before .names-are-declared-twice) .ensures, (c .before .before .before .before .before .if5) .left, ← (c .before .before .counts-are-bad) .ensures, (c .before .if6) .left, ← (c .before .before .before .before .before .before .before .before .before .before .before .before .before .before .before .before .before .before .before .before .before .before .before .before .before .room-is-short) .ensures, (c .if7) .taken)
+
+same-length-19 : tie.Need-same-length-19
+same-length-19 c = search needs
+
+same-length-20 : tie.Need-same-length-20
+same-length-20 c = search needs
+
+same-length-21 : tie.Need-same-length-21
+same-length-21 c = search needs
+
+same-length-22 : tie.Need-same-length-22
+same-length-22 c = search needs
+
 returns-8 : tie.Need-returns-8
 unfolding refusal
-returns-8 c = rw (((c .before .before .before .before .before .before .before .before .before .before .before .before .before .before .before .before .before .before .before .before .before .before .before .before .before .before .before .before .before .before .before) .pre .0) .script, ← ((c .before .before .before .before .before .before .before .before .before .before .before .before .before .before .before .before .before .before .before .before .before .before .before .before .before .before .before .before .before .before .before) .pre .0) .is, ((c .before .before .before .before .before .before .before .before .before .before .before .before .before .before .before .before .before .before .before .before .before .before .before .before .before .before .before .before .before .before .before) .pre .0) .version, ((c .before .before .before .before .before .before .before .before .before .before .before .before .before .before .before .before .before .before .before .before .before .before .before .before .before .before .before .before .before .before .before) .pre .0) .limits, ((c .before .before .before .before .before .before .before .before .before .before .before .before .before .before .before .before .before .before .before .before .before .before .before .before .before .before .before .before .before .before .before) .pre .0) .measured, ← (c .before .before .before .before .before .before .before .before .before .before .before .before .before .before .before .before .before .before .before .before .before .before .before .before .before .facts-are-bad) .ensures, (c .before .before .before .before .before .before .before .before .before .before .before .before .before .before .before .before .before .before .before .before .before .before .before .if1) .left, ← ((c .before .before .before .before .before .before .before .before .before .before .before .before .before .before .before .before .before .before .before .before .before .before .script-totals) .ensures) .0, (c .before .before .before .before .before .before .before .before .before .before .before .before .before .before .before .before .before .before .before .before .before .if2) .left, ← (c .before .before .before .before .before .before .before .before .before .before .before .before .before .before .before .before .before .before .before .before .nodes-are-bad) .ensures, (c .before .before .before .before .before .before .before .before .before .before .before .before .before .before .before .before .before .before .before .if3) .left, ← (c .before .before .before .before .before .before .before .before .before .before .before .before .before .before .before .before .before .trees-are-bad) .ensures, (c .before .before .before .before .before .before .before .before .before .before .before .before .before .before .if4) .left, ← (c .before .before .before .before .before .before .before .before .before .before .before .before .names-are-declared-twice) .ensures, (c .before .before .before .before .before .before .before .before .before .if5) .left, ← (c .before .before .before .before .before .before .counts-are-bad) .ensures, (c .before .if6) .left, ← (c .before .before .before .before .before .before .before .before .before .before .before .before .before .before .before .before .before .before .before .before .before .before .before .before .room-is-short) .ensures, (c .if7) .left)
+returns-8 c = rw (((c .before .before .before .before .before .before .before .before .before .before .before .before .before .before .before .before .before .before .before .before .before .before .before .before .before .before .before .before .before .before .before .before) .pre .0) .script, ← ((c .before .before .before .before .before .before .before .before .before .before .before .before .before .before .before .before .before .before .before .before .before .before .before .before .before .before .before .before .before .before .before .before) .pre .0) .is, ((c .before .before .before .before .before .before .before .before .before .before .before .before .before .before .before .before .before .before .before .before .before .before .before .before .before .before .before .before .before .before .before .before) .pre .0) .version, ((c .before .before .before .before .before .before .before .before .before .before .before .before .before .before .before .before .before .before .before .before .before .before .before .before .before .before .before .before .before .before .before .before) .pre .0) .limits, ((c .before .before .before .before .before .before .before .before .before .before .before .before .before .before .before .before .before .before .before .before .before .before .before .before .before .before .before .before .before .before .before .before) .pre .0) .measured, ← (c .before .before .before .before .before .before .before .before .before .before .before .before .before .before .before .before .before .before .before .before .before .before .before .before .before .before .facts-are-bad) .ensures, (c .before .before .before .before .before .before .before .before .before .before .before .before .before .before .before .before .before .before .before .before .before .before .before .before .if1) .left, ← (c .before .before .before .before .before .before .before .before .before .before .before .before .before .before .before .before .before .before .before .before .before .before .before .script-totals) .ensures .0, (c .before .before .before .before .before .before .before .before .before .before .before .before .before .before .before .before .before .before .before .before .before .before .if2) .left, ← (c .before .before .before .before .before .before .before .before .before .before .before .before .before .before .before .before .before .before .node-rows) .ensures .0, (c .before .before .before .before .before .before .before .before .before .before .before .if3) .left, ← (c .before .before .before .before .before .before .before .before .before .before .before .before .before .before .before .before .before .before .node-rows) .ensures .1 .0, (c .before .before .before .before .before .before .before .before .before .before .if4) .left, ← (c .before .before .before .before .before .before .before .before .names-are-declared-twice) .ensures, (c .before .before .before .before .before .if5) .left, ← (c .before .before .counts-are-bad) .ensures, (c .before .if6) .left, ← (c .before .before .before .before .before .before .before .before .before .before .before .before .before .before .before .before .before .before .before .before .before .before .before .before .before .room-is-short) .ensures, (c .if7) .left)
 
 pub check-spec : {M : Type 1} → statement M
 check-spec =
@@ -114,28 +140,34 @@ check-spec =
     returns
     script-totals-requires
     returns-2
-    nodes-are-bad-requires
-    returns-3
-    trees-are-bad-requires
+    node-rows-requires
     same-length
-    returns-4
-    names-are-declared-twice-requires
     same-length-2
     same-length-3
-    returns-5
-    counts-are-bad-requires
+    returns-3
     same-length-4
     same-length-5
     same-length-6
+    returns-4
+    names-are-declared-twice-requires
     same-length-7
-    returns-6
     same-length-8
     same-length-9
     same-length-10
+    returns-5
+    counts-are-bad-requires
     same-length-11
-    returns-7
     same-length-12
     same-length-13
     same-length-14
+    returns-6
     same-length-15
+    same-length-16
+    same-length-17
+    same-length-18
+    returns-7
+    same-length-19
+    same-length-20
+    same-length-21
+    same-length-22
     returns-8)
