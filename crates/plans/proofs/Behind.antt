@@ -23,7 +23,7 @@ unfolding bareNames allBareNames
 all-bare t ts h = both (bareNames t) (allBareNames ts) h
 
 -- a name found, with another result that says the same of it
-found-same : {table : List ℕ} {at : ℕ} {ts : Trees} {pre rest : List ℕ} {replacement : Tree} {r q : Walked} {ts′ held : Trees} {name : NodeRecord} {between after : List ℕ}
+pub found-same : {table : List ℕ} {at : ℕ} {ts : Trees} {pre rest : List ℕ} {replacement : Tree} {r q : Walked} {ts′ held : Trees} {name : NodeRecord} {between after : List ℕ}
     → Found table at ts pre rest replacement r ts′ held name between after → q .place ≡ r .place → q .indirect ≡ r .indirect
     → Found table at ts pre rest replacement q ts′ held name between after
 found-same f p i = record {

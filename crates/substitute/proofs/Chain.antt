@@ -1,12 +1,13 @@
--- The search down through links, and back.
+-- The search down through links, and back. Assumes nothing.
 use Prim.Native.Nat.{ℕ, _+_, _*_, _-_, _≤_, _<_}
 use native.Mathlib.Omega.{arith}
-use mathlib.Core.Bool.{Bool, true, false, cond, _&&_, _||_, or-false}
+use mathlib.Core.Bool.{Bool, true, false, cond, _&&_, _||_, not, or-false}
 use mathlib.Core.List.{List, _++_}
 use mathlib.Core.Path.{_≡_, refl, sym, ap, _∙_, subst}
-use lib.ListN.{length}
+use lib.ListN.{length, set}
+use lib.Seq.{set-getD}
 use lib.Dec.{eqb, ltb}
-use borrow.Author.Tests.{eqb-true, lt-ltb}
+use borrow.Author.Tests.{eqb-true, ltb-false}
 use Rattle.records.specs.Record.{nodeAt}
 use Rattle.records.specs.Tree.{Node, Tree, Trees, node, none, more, count, recordOf, nodeOf}
 use Rattle.records.specs.declared.layout.NodeRecord.{NodeRecord}
@@ -17,9 +18,9 @@ use Rattle.table.proofs.Before.{node-before}
 use Rattle.table.proofs.Laid.{inside}
 use Rattle.walk.specs.Context.{Context}
 use Rattle.walk.specs.Effect.{hasEffect}
-use Rattle.walk.specs.Shape.{is, Choice, never, skips, cuts, picks, Shape as RuleShape, constant, identifier, targetName, leaf, chain, import, delete, sequence, property, stopping, assignment, steps, shape}
+use Rattle.walk.specs.Shape.{is, Choice, never, skips, cuts, picks, Shape as RuleShape, constant, identifier, targetName, leaf, chain, import, delete, sequence, property, stopping, assignment, steps, shape, cleared}
 use Rattle.walk.specs.Looks.{ownLooks, looksInExpression}
-use Rattle.walk.specs.Substitute.{Answer as RuleAnswer, isSpecificId, keepsCallee, keepsIndirect, first, next as nextPlan, planFor, plan, substituteInExpression, substituteInChildren}
+use Rattle.walk.specs.Substitute.{Answer as RuleAnswer, isSpecificId, keepsCallee, keepsIndirect, first, next as nextPlan, planFor, plan, substituteInExpression}
 use Rattle.plans.specs.declared.plan.Plan.{Plan}
 use Rattle.plans.specs.declared.plan.Plan.the-variants.{All, First, Test}
 use Rattle.plans.specs.declared.sought.Sought.{Sought}
@@ -28,19 +29,21 @@ use Rattle.plans.specs.Shapes.{planned}
 use Rattle.plans.specs.Plans.{isNothing, isBranches}
 use Rattle.plans.specs.declared.walked.Answer.{Answer}
 use Rattle.plans.specs.declared.walked.Answer.the-variants.{Replaced, Stopped, Passed}
-use Rattle.plans.specs.Answers.{isPassed, isReplaced}
+use Rattle.plans.specs.Answers.{isPassed, isReplaced, Either}
 use Rattle.effects.specs.Passes.{Passes}
 use Rattle.plans.specs.Described.{Describes, Known}
 use Rattle.plans.specs.Passing.{stopsIn}
 use Rattle.plans.specs.Search.{Searchable, SearchableRow, Did, passes, stops, replaces, Searches, SearchesRow}
+use Rattle.plans.proofs.Behind.{found-same}
 use Rattle.substitute.specs.declared.descent.Before.{Before}
-use Rattle.substitute.specs.OfNode.{behind, gather, OfNode, isLeaf}
-use Rattle.substitute.specs.Links.{linkPlan, IsLink, Goes, Leaves, no-leaves, one-more, Reaches, SomeReaches, Links, start, link, SomeNode, LeavesBefore, Within, ChildSearched}
-use Rattle.substitute.proofs.Row.{row-replaced, row-stopped}
+use Rattle.substitute.specs.OfNode.{behind, gather, OfNode, leafKind, isLeaf}
+use Rattle.substitute.specs.Links.{linkPlan, planBehind, IsLink, Goes, OfChildren, Steady, Leaves, no-leaves, one-more, planAt, Reaches, Links, start, link, SomeNode, LeavesBefore, Within, ChildSearched}
+use Rattle.substitute.proofs.Row.{wrong, row-replaced, row-stopped, row-either}
 use Rattle.substitute.proofs.Nodes.{one-searched, others-searchable, looks-in-room}
 use Rattle.substitute.proofs.Searching.{searchable-room, first-searchable, bare-node, node-is}
-use Rattle.substitute.proofs.OfNode.{node-of}
-use Rattle.substitute.proofs.Going.{goes-on, goes-to}
+use Rattle.substitute.proofs.OfNode.{node-of, of-clearing}
+use Rattle.substitute.proofs.Looking.{own-most}
+use Rattle.substitute.proofs.Going.{gather-none, gather-both, goes-on, goes-to}
 
 by-test : (holds : Plan → Bool) (b : Bool) (p : Plan) → holds First ≡ false → holds p ≡ false → holds (cond b First p) ≡ false
 by-test holds true p f h = f
@@ -68,25 +71,8 @@ plan-enters s (steps skips) = by-test isNothing (s .effect) All refl refl
 plan-enters s (steps cuts) = by-test isNothing (s .effect) All refl refl
 plan-enters s (steps picks) = by-test isNothing (s .effect) Test refl refl
 
-pub plan-no-branches : (s : Sought) (x : RuleShape) → isBranches (linkPlan s x) ≡ false
-plan-no-branches s constant = refl
-plan-no-branches s identifier = refl
-plan-no-branches s targetName = refl
-plan-no-branches s leaf = refl
-plan-no-branches s chain = refl
-plan-no-branches s import = refl
-plan-no-branches s delete = refl
-plan-no-branches s sequence = refl
-plan-no-branches s property = refl
-plan-no-branches s stopping = refl
-plan-no-branches s (assignment c) = refl
-plan-no-branches s (steps never) = refl
-plan-no-branches s (steps skips) = by-test isBranches (s .effect) All refl refl
-plan-no-branches s (steps cuts) = by-test isBranches (s .effect) All refl refl
-plan-no-branches s (steps picks) = by-test isBranches (s .effect) Test refl refl
-
 -- A link, by its shape.
-module _ (n : NodeRecord) (s : Sought) (some : n .children ≡ 0 → ⊥) (other : is 4 (nodeOf n) ≡ false) where
+module _ (n : NodeRecord) (s : Sought) (some : n .children ≡ 0 → ⊥) (other : is 4 (nodeOf n) ≡ false) (kept : cleared (nodeOf n) .flags ≡ n .flags) where
   by-choice : (ctx : Context) (name : ℕ) (replacement : Tree) → Describes s replacement → (c : Choice) (kids : Trees) → keepsCallee replacement (nodeOf n) kids ≡ false → keepsIndirect name replacement (nodeOf n) kids ≡ false
       → planned (linkPlan s (steps c)) ≡ plan ctx name replacement (steps c) (nodeOf n) kids
   unfolding plan planFor
@@ -100,6 +86,7 @@ module _ (n : NodeRecord) (s : Sought) (some : n .children ≡ 0 → ⊥) (other
   link-steps c e k i = record {
     some = some;
     other = other;
+    kept = kept;
     steady = λ ctx replacement kids. sym (ap (λ x. stopsIn ctx replacement x kids) e);
     enters = λ ctx replacement d kids. subst (λ x. planned (linkPlan s x) ≡ plan ctx (s .name .0) replacement x (nodeOf n) kids) (sym e) (by-choice ctx (s .name .0) replacement d c kids (k replacement d kids) (i (s .name .0) replacement d kids));
   }
@@ -109,6 +96,7 @@ module _ (n : NodeRecord) (s : Sought) (some : n .children ≡ 0 → ⊥) (other
   link-shaped x e t w = record {
     some = some;
     other = other;
+    kept = kept;
     steady = λ ctx replacement kids. t ctx replacement kids ∙ sym (ap (λ y. stopsIn ctx replacement y kids) e);
     enters = λ ctx replacement d kids. subst (λ y. planned (linkPlan s y) ≡ plan ctx (s .name .0) replacement y (nodeOf n) kids) (sym e) (w ctx (s .name .0) replacement kids);
   }
@@ -121,19 +109,31 @@ counted n e t = sym (ap (λ x. x .children) (node-is e t))
 pub children-row : {table : List ℕ} {at : ℕ} → Searchable table at → SearchableRow table (at + 1) (nodeAt table (16 * at) .children)
 children-row {table} {at} (pre, node m kids, rest, t, b) = (pre ++ workBytes (recordOf m (count kids)), kids, rest, inside t, counted (nodeAt table (16 * at)) refl t, bare-node m kids b .1)
 
--- the search of a link, from that of its children
-module _ (ctx : Context) (s : Sought) {table table′ table″ : List ℕ} {at : ℕ} {r q : Walked} (n : NodeRecord) (e : n ≡ nodeAt table (16 * at)) (l : IsLink n s) (w : SearchesRow ctx s table table′ (at + 1) (n .children) (linkPlan s (shape (nodeOf n))) r) (o : OfNode ctx table′ table″ at n false s (behind false r) q) where
-  pub link-searched : Searches ctx s table table″ at q
+-- the search of a link's children, by its own plan
+pub link-children : (ctx : Context) (s : Sought) {table table′ : List ℕ} {at : ℕ} {r : Walked} (n : NodeRecord) → n ≡ nodeAt table (16 * at) → IsLink n s
+    → SearchesRow ctx s table table′ (at + 1) (n .children) (linkPlan s (shape (nodeOf n))) r → OfChildren ctx s table at table′ r
+link-children ctx s n e l w replacement d pre m kids rest t b =
+    let f : nodeOf n ≡ m = ap nodeOf (node-is e t) ∙ node-of m (count kids) in
+    let g : planned (linkPlan s (shape (nodeOf n))) ≡ plan ctx (s .name .0) replacement (shape m) m kids = l .enters ctx replacement d kids ∙ ap (λ x. plan ctx (s .name .0) replacement (shape x) x kids) f in
+    rw (← g) (w replacement d (pre ++ workBytes (recordOf m (count kids))) kids rest (inside t) (counted n e t) b)
+
+pub link-steady : (ctx : Context) (s : Sought) {table : List ℕ} {at : ℕ} (n : NodeRecord) → n ≡ nodeAt table (16 * at) → IsLink n s → Steady ctx s table at
+link-steady ctx s n e l replacement d pre m kids rest t = l .steady ctx replacement kids ∙ ap (λ x. stopsIn ctx replacement (shape x) kids) (ap nodeOf (node-is e t) ∙ node-of m (count kids))
+
+-- the search of a node, from that of its children
+module _ (ctx : Context) (s : Sought) {table table′ table″ : List ℕ} {at : ℕ} {r q : Walked} (n : NodeRecord) (e : n ≡ nodeAt table (16 * at)) (other : is 4 (nodeOf n) ≡ false) (steady : Steady ctx s table at) where
+  pub through-children : OfChildren ctx s table at table′ r → OfNode ctx table′ table″ at n false s (behind false r) q → Searches ctx s table table″ at q
   unfolding substituteInExpression looksInExpression isSpecificId
-  link-searched replacement d pre (node m kids) rest t b =
+  through-children w o replacement d pre (node m kids) rest t b =
       let z = node-is e t in
-      let f : nodeOf n ≡ m = ap nodeOf z ∙ node-of m (count kids) in
-      let p = linkPlan s (shape (nodeOf n)) in
-      let g : planned p ≡ plan ctx (s .name .0) replacement (shape m) m kids = l .enters ctx replacement d kids ∙ ap (λ x. plan ctx (s .name .0) replacement (shape x) x kids) f in
-      let i : is 4 m ≡ false = sym (ap (is 4) f) ∙ l .other in
-      let (x, y) = w replacement d (pre ++ workBytes (recordOf m (count kids))) kids rest (inside t) (counted n e t) (bare-node m kids b .1) in
-      let (a, k) = o replacement d pre m kids rest (substituteInChildren ctx (s .name .0) replacement (planned p) kids) z (l .steady ctx replacement kids ∙ ap (λ x. stopsIn ctx replacement (shape x) kids) f) x in
-      rw (i, ← g) (a, k ∙ ap (λ z. ownLooks m + z) y)
+      let i : is 4 m ≡ false = sym (ap (is 4) (ap nodeOf z ∙ node-of m (count kids))) ∙ other in
+      let (x, y) = w replacement d pre m kids rest t (bare-node m kids b .1) in
+      let (a, k) = o replacement d pre m kids rest _ z (steady replacement d pre m kids rest t) x in
+      rw i (a, k ∙ ap (λ z. ownLooks m + z) y)
+
+pub link-searched : (ctx : Context) (s : Sought) {table table′ table″ : List ℕ} {at : ℕ} {r q : Walked} (n : NodeRecord) → n ≡ nodeAt table (16 * at) → IsLink n s
+    → SearchesRow ctx s table table′ (at + 1) (n .children) (linkPlan s (shape (nodeOf n))) r → OfNode ctx table′ table″ at n false s (behind false r) q → Searches ctx s table table″ at q
+link-searched ctx s n e l w o = through-children ctx s n e (l .other) (link-steady ctx s n e l) (link-children ctx s n e l w) o
 
 -- A search changes nothing before the tree.
 still-there : {table : List ℕ} {at : ℕ} {ts : Trees} {pre rest : List ℕ} {replacement : Tree} {r : Walked} {b : RuleAnswer Trees} → Did table at ts pre rest replacement r b → (x : List ℕ) × (table ≡ pre ++ x) × (length pre ≡ 16 * at)
@@ -193,105 +193,146 @@ node-sooner table last n z h (k, l, o) =
     let other : k ≡ last → ⊥ = λ e. clash (isLeaf (nodeAt table (16 * k))) o (subst (λ j. isLeaf (nodeAt table (16 * j)) ≡ true) (sym e) (subst (λ j. isLeaf j ≡ true) z h)) in
     (k, omega (arith, l, other), o)
 
--- a link is no leaf
-pub link-no-leaf : (n : NodeRecord) (s : Sought) → IsLink n s → isLeaf n ≡ false
-link-no-leaf n s l = off (eqb (n .children) 0) refl
+-- a node with children is no leaf
+pub children-no-leaf : (n : NodeRecord) → (n .children ≡ 0 → ⊥) → isLeaf n ≡ false
+children-no-leaf n some = off (eqb (n .children) 0) refl
   where
-    off : (b : Bool) → eqb (n .children) 0 ≡ b → (b && (ltb (n .kind) 6 || eqb (n .kind) 27)) ≡ false
-    off true e = absurd (l .some (eqb-true (n .children) 0 e))
+    off : (b : Bool) → eqb (n .children) 0 ≡ b → (b && leafKind (n .kind)) ≡ false
+    off true e = absurd (some (eqb-true (n .children) 0 e))
     off false e = refl
 
--- the last of some links
-last-link : {ctx : Context} {s : Sought} {table : List ℕ} {at end : ℕ} → Links ctx s table at end → at < end → (next : ℕ) × SomeReaches ctx s table next end × Links ctx s table at next
-last-link (start e) l = absurd (omega (arith, e, l))
-last-link (link {next} r ls) l = (next, r, ls)
+-- what is replaced isn't passed
+not-passed : (a : Answer) → isReplaced a ≡ true → isPassed a ≡ false
+not-passed Replaced e = refl
+not-passed Stopped e = refl
+not-passed Passed e = sym e
 
-links-later : {ctx : Context} {s : Sought} {table : List ℕ} {at end : ℕ} → Links ctx s table at end → at ≤ end
-links-later (start e) = omega (arith, e)
-links-later (link (left, effect, looks, r) ls) = omega (arith, r .later, links-later ls)
+-- where the name was found, no effect is told
+any-effect : {table : List ℕ} {at : ℕ} {ts : Trees} {pre rest : List ℕ} {replacement : Tree} {r : Walked} {b : RuleAnswer Trees} → Did table at ts pre rest replacement r b → isReplaced (r .answer) ≡ true
+    → (q : Walked) → q .answer ≡ r .answer → q .place ≡ r .place → q .indirect ≡ r .indirect → Did table at ts pre rest replacement q b
+any-effect (passes e x y z) h q a p i = wrong isReplaced e refl h
+any-effect (stops e x y z w) h q a p i = wrong isReplaced e refl h
+any-effect (replaces e f) h q a p i = replaces (a ∙ e) (found-same f p i)
+
+-- a node given the flags that it has
+same-flags : (table : List ℕ) (at : ℕ) → set table (16 * at + 1) (nodeAt table (16 * at) .flags) ≡ table
+unfolding nodeAt
+same-flags table at = set-getD table (16 * at + 1) 0
 
 -- A child of a link that was searched behind its leaves.
 module _ (ctx : Context) (s : Sought) {table₀ table : List ℕ} {at child left : ℕ} {effect : Bool} {looks : ℕ} {w : Walked} (k : Known s) (g : Reaches ctx s table₀ at child left effect looks) (v : Searches ctx s table₀ table child w) where
-  child-searchable : Searchable table₀ child
+  pub child-searchable : Searchable table₀ child
   child-searchable = first-searchable (g .goes .row) (g .some)
 
   module _ (n : NodeRecord) (e : n ≡ nodeAt table (16 * at)) where
-    -- the link's record as it was, and what is known by it
-    record-was : n ≡ nodeAt table₀ (16 * at)
+    -- the link's record as it was
+    pub record-was : n ≡ nodeAt table₀ (16 * at)
     record-was = e ∙ same-before ctx s k child-searchable v at (g .later)
-
-    link-was : IsLink n s
-    link-was = subst (λ x. IsLink x s) (sym record-was) (g .link)
-
-    goes-was : Goes ctx s table₀ (at + 1) (n .children) (linkPlan s (shape (nodeOf n))) table₀ child left (linkPlan s (shape (nodeOf n))) effect looks
-    goes-was = subst (λ x. Goes ctx s table₀ (at + 1) (x .children) (linkPlan s (shape (nodeOf x))) table₀ child left (linkPlan s (shape (nodeOf x))) effect looks) (sym record-was) (g .goes)
 
     pub left-was : left + child ≡ n .children + at + 1
     left-was = subst (λ x. left + child ≡ x .children + at + 1) (sym record-was) (g .many)
 
-    abbrev Row : List ℕ → Walked → Type 0
-    Row table′ a = SearchesRow ctx s table₀ table′ (at + 1) (n .children) (linkPlan s (shape (nodeOf n))) a
+    -- the link, from its children
+    pub behind-searched : {table′ table″ : List ℕ} {a q : Walked} → OfChildren ctx s table₀ at table′ a → OfNode ctx table′ table″ at n false s (behind false a) q → Searches ctx s table₀ table″ at q
+    behind-searched r o = through-children ctx s n record-was (subst (λ x. is 4 (nodeOf x) ≡ false) (sym record-was) (g .other)) (g .steady) r o
 
-    -- the link, from the row of its children
-    pub behind-searched : {table′ table″ : List ℕ} {a q : Walked} → Row table′ a → OfNode ctx table′ table″ at n false s (behind false a) q → Searches ctx s table₀ table″ at q
-    behind-searched r o = link-searched ctx s n record-was link-was r o
+  -- the name was found in the child: so it was in the link, which stays as it is
+  pub found-in : isReplaced (w .answer) ≡ true → Searches ctx s table₀ table at (gather false (ownLooks (nodeOf (nodeAt table₀ (16 * at))) + looks) w)
+  found-in h replacement d pre t rest t′ b =
+      let n = nodeAt table (16 * at) in
+      let z = record-was n refl in
+      let a = gather effect looks w in
+      let row = goes-to ctx s (g .goes) refl (λ replacement d pre ts rest t c b. row-replaced ctx s replacement d (planAt table₀ s at child) (g .enters) v ts c (g .some) t b h) in
+      let q : Walked = record { next = w .next; place = w .place; looks = ownLooks (nodeOf n) + (looks + w .looks); answer = w .answer; effect = effect || w .effect; indirect = w .indirect } in
+      let o = of-clearing ctx table at false s (behind false a) q n (n .flags) (ownLooks (nodeOf n)) table (sym (subst (λ x. cleared (nodeOf x) .flags ≡ x .flags) (sym z) (g .kept))) (sym (same-flags table at)) refl (not-passed (w .answer) h) refl in
+      let (x, y) = behind-searched n refl row o replacement d pre t rest t′ b in
+      let own : ownLooks (nodeOf n) ≡ ownLooks (nodeOf (nodeAt table₀ (16 * at))) = ap (λ x. ownLooks (nodeOf x)) z in
+      (any-effect x h _ refl refl refl, omega (arith, y, own))
 
-    -- the row, where the name was found in the child
-    pub row-found : {a : Walked} → isReplaced (w .answer) ≡ true → a ≡ gather effect looks w → Row table a
-    row-found h z = goes-to ctx s goes-was z (λ replacement d pre ts rest t c b. row-replaced ctx s replacement d (linkPlan s (shape (nodeOf n))) (plan-enters s (shape (nodeOf n))) v ts c (g .some) t b h)
+-- Links are gone down through, past a node a look at the least.
+pub links-seen : {ctx : Context} {s : Sought} {table : List ℕ} {at end looks : ℕ} → Links ctx s table at end looks → at + looks ≤ end
+links-seen (start e) = omega (arith, e)
+links-seen {table = table} (link {next} r ls) = omega (arith, r .goes .seen, links-seen ls, own-most (nodeOf (nodeAt table (16 * next))))
 
--- The name was found behind a link.
-module _ (ctx : Context) (s : Sought) {table₀ table : List ℕ} {at end : ℕ} {w : Walked} (k : Known s) (g : Within ctx s table₀ table at end w) (l : at < end) where
-  pub within-looks : 16 * end + 16 * w .looks ≤ length table
-  within-looks = omega (arith, looks-in-room ctx s k (g .here) (g .did), g .same)
+-- the last of them
+record LastLink (ctx : Context) (s : Sought) (table : List ℕ) (at end looks next left seen extra : ℕ) (effect : Bool) : Type 0 where
+  reaches : Reaches ctx s table next end left effect extra
+  links : Links ctx s table at next seen
+  all : looks ≡ seen + (ownLooks (nodeOf (nodeAt table (16 * next))) + extra)
 
-  pub within-room : 16 * end ≤ length table
-  within-room = omega (arith, searchable-room (g .here), g .same)
+last-link : {ctx : Context} {s : Sought} {table : List ℕ} {at end looks : ℕ} → Links ctx s table at end looks → at < end
+    → (next : ℕ) × (left : ℕ) × (seen : ℕ) × (extra : ℕ) × (effect : Bool) × LastLink ctx s table at end looks next left seen extra effect
+last-link (start e) l = absurd (omega (arith, e, l))
+last-link (link {next} {left = left} {looks = extra} {seen = seen} {effect = effect} r ls) l = (next, left, seen, extra, effect, record { reaches = r; links = ls; all = refl })
 
-  -- there is a node that is no leaf before
-  pub within-node : SomeNode table end
-  within-node =
-      let (next, (left, effect, looks, r), ls) = last-link (g .links) l in
-      (next, r .later, subst (λ n. isLeaf n ≡ false) (sym (same-before ctx s k (g .here) (g .did) next (r .later))) (link-no-leaf (nodeAt table₀ (16 * next)) s (r .link)))
+-- the name was found behind them
+pub found-links : (ctx : Context) (s : Sought) {table₀ table : List ℕ} {at end looks : ℕ} {w : Walked} → Known s → Links ctx s table₀ at end looks → Searches ctx s table₀ table end w → isReplaced (w .answer) ≡ true → Searches ctx s table₀ table at (gather false looks w)
+found-links ctx s {table₀} {table} {w = w} k (start e) v h = subst (λ x. Searches ctx s table₀ table x (gather false 0 w)) e (subst (Searches ctx s table₀ table _) (gather-none w) v)
+found-links ctx s {table₀} {table} {at} {w = w} k (link {next} {looks = extra} {seen = seen} r ls) v h =
+    subst (Searches ctx s table₀ table at) (gather-both false false seen (ownLooks (nodeOf (nodeAt table₀ (16 * next))) + extra) w)
+    (found-links ctx s k ls (found-in ctx s k r v h) h)
 
-  module _ (b : Before) (f : LeavesBefore table end b) where
-    -- the last of them is the last link
-    last-before : (left : ℕ) × Reaches ctx s table₀ (b .link .0) end left (b .effect) (b .looks) × Links ctx s table₀ at (b .link .0)
-    last-before =
-        let (next, (left, effect, looks, r), ls) = last-link (g .links) l in
-        let same : (j : ℕ) → j < end → nodeAt table (16 * j) ≡ nodeAt table₀ (16 * j) = same-before ctx s k (g .here) (g .did) in
-        let (x, y, z) = leaves-only (r .leaves) (leaves-same same (f .leaves)) (link-no-leaf (nodeAt table₀ (16 * next)) s (r .link)) (subst (λ n. isLeaf n ≡ false) (same (b .link .0) (f .sooner)) (f .other)) in (
-          left,
-          subst (λ m. Reaches ctx s table₀ (b .link .0) end left (b .effect) m) z (subst (λ e. Reaches ctx s table₀ (b .link .0) end left e looks) y (subst (λ j. Reaches ctx s table₀ j end left effect looks) x r)),
-          subst (Links ctx s table₀ at) x ls,
-        )
+-- On the way back.
+module _ (ctx : Context) (s : Sought) {table₀ table : List ℕ} {at end looks : ℕ} {w : Walked} (k : Known s) (g : Within ctx s table₀ table at end looks w) where
+  pub within-looks : 16 * looks + 16 * w .looks ≤ length table
+  within-looks = omega (arith, links-seen (g .links), looks-in-room ctx s k (g .here) (g .did), g .same)
 
-    pub before-room : 16 * b .link .0 + 16 ≤ length table
-    before-room = omega (arith, within-room, f .sooner)
+  module _ (l : at < end) where
+    pub within-room : 16 * end ≤ length table
+    within-room = omega (arith, searchable-room (g .here), g .same)
 
-    pub before-later : at ≤ b .link .0
-    before-later = links-later (last-before .2)
+    -- there is a node that is no leaf before
+    pub within-node : SomeNode table end
+    within-node =
+        let (next, left, seen, extra, effect, r) = last-link (g .links) l in
+        (next, r .reaches .later, subst (λ n. isLeaf n ≡ false) (sym (same-before ctx s k (g .here) (g .did) next (r .reaches .later))) (children-no-leaf (nodeAt table₀ (16 * next)) (r .reaches .children)))
 
-    pub before-looks : b .link .0 + 1 + b .looks ≤ end
-    before-looks = last-before .1 .goes .seen
+    module _ (b : Before) (f : LeavesBefore table end b) where
+      -- the last of them is the last link
+      last-before : (left : ℕ) × (seen : ℕ) × LastLink ctx s table₀ at end looks (b .link .0) left seen (b .looks) (b .effect)
+      last-before =
+          let (next, left, seen, extra, effect, r) = last-link (g .links) l in
+          let same : (j : ℕ) → j < end → nodeAt table (16 * j) ≡ nodeAt table₀ (16 * j) = same-before ctx s k (g .here) (g .did) in
+          let (x, y, z) = leaves-only (r .reaches .leaves) (leaves-same same (f .leaves)) (children-no-leaf (nodeAt table₀ (16 * next)) (r .reaches .children)) (subst (λ n. isLeaf n ≡ false) (same (b .link .0) (f .sooner)) (f .other)) in (
+            left,
+            seen,
+            subst (λ m. LastLink ctx s table₀ at end looks (b .link .0) left seen m (b .effect)) z (subst (λ e. LastLink ctx s table₀ at end looks (b .link .0) left seen extra e) y (subst (λ j. LastLink ctx s table₀ at end looks j left seen extra effect) x r)),
+          )
 
-    pub within-link : {table′ : List ℕ} {r : Walked} → Searches ctx s table₀ table′ (b .link .0) r → length table′ ≡ length table → Within ctx s table₀ table′ at (b .link .0) r
-    within-link v m = record { later = before-later; links = last-before .2; here = last-before .1 .here; did = v; same = m ∙ g .same }
+      own-was : b .own ≡ ownLooks (nodeOf (nodeAt table₀ (16 * b .link .0)))
+      own-was = f .own ∙ ap (λ n. ownLooks (nodeOf n)) (same-before ctx s k (g .here) (g .did) (b .link .0) (f .sooner))
 
-    pub within-found : {table′ : List ℕ} {a r : Walked} (n : NodeRecord) → n ≡ nodeAt table (16 * b .link .0) → isReplaced (w .answer) ≡ true → a ≡ gather (b .effect) (b .looks) w → OfNode ctx table table′ (b .link .0) n false s (behind false a) r → Searches ctx s table₀ table′ (b .link .0) r
-    within-found n e h z o = behind-searched ctx s k (last-before .1) (g .did) n e (row-found ctx s k (last-before .1) (g .did) n e h z) o
+      pub before-room : 16 * b .link .0 + 16 ≤ length table
+      before-room = omega (arith, within-room, f .sooner)
 
-    -- what is asked for the search of the last link, where the name wasn't found
-    pub within-child : isReplaced (w .answer) ≡ false → (left : ℕ) × ChildSearched ctx s table₀ table b end left w
-    within-child o = (last-before .0, record { reaches = last-before .1; did = g .did; not-found = o; same = g .same })
+      pub before-later : at ≤ b .link .0
+      before-later = omega (arith, links-seen (last-before .2 .links))
 
-pub within-all : (ctx : Context) (s : Sought) {table₀ table : List ℕ} {at end : ℕ} {w : Walked} → Within ctx s table₀ table at end w → end ≤ at → Searches ctx s table₀ table at w
-within-all ctx s {table₀} {table} {at} {end} {w} g l = subst (λ x. Searches ctx s table₀ table x w) (omega (arith, l, g .later)) (g .did)
+      pub before-looks : b .own + b .looks ≤ looks
+      before-looks = omega (arith, last-before .2 .all, own-was)
 
--- the loop ended before the last link
-pub ended : (on : Bool) (at i : ℕ) → (on && ltb at i) ≡ false → at < i → on ≡ false
-ended true at i h l = sym (lt-ltb at i l) ∙ h
-ended false at i h l = refl
+      pub within-link : {table′ : List ℕ} {r : Walked} → Searches ctx s table₀ table′ (b .link .0) r → length table′ ≡ length table → Within ctx s table₀ table′ at (b .link .0) (looks - (b .own + b .looks)) r
+      within-link v m =
+          let (left, seen, r) = last-before in
+          record {
+            links = subst (Links ctx s table₀ at (b .link .0)) (omega (arith, r .all, own-was)) (r .links);
+            here = r .reaches .here;
+            did = v;
+            same = m ∙ g .same;
+          }
+
+      -- what is asked for the search of the last link, where the name wasn't found
+      pub within-child : isReplaced (w .answer) ≡ false → (left : ℕ) × ChildSearched ctx s table₀ table b end left w
+      within-child o = (last-before .0, record { reaches = last-before .2 .reaches; did = g .did; not-found = o; same = g .same })
+
+  -- the name was found, or all links are behind
+  pub within-all : (replaced : Bool) → replaced ≡ isReplaced (w .answer) → (not replaced && ltb at end) ≡ false → Searches ctx s table₀ table at (gather false looks w)
+  within-all true e h = found-links ctx s k (g .links) (g .did) (sym e)
+  within-all false e h = all-behind (g .links) (ltb-false at end h) (g .did)
+    where
+      all-behind : {end looks : ℕ} → Links ctx s table₀ at end looks → end ≤ at → Searches ctx s table₀ table end w → Searches ctx s table₀ table at (gather false looks w)
+      all-behind (start e) l v = subst (λ x. Searches ctx s table₀ table x (gather false 0 w)) e (subst (Searches ctx s table₀ table _) (gather-none w) v)
+      all-behind (link r ls) l v = absurd (omega (arith, l, r .later, links-seen ls))
 
 -- A link whose child was searched behind its leaves, and the name was not found.
 module _ (ctx : Context) (s : Sought) {table₀ table : List ℕ} {b : Before} {child left : ℕ} {w : Walked} (k : Known s) (g : ChildSearched ctx s table₀ table b child left w) where
@@ -314,34 +355,41 @@ module _ (ctx : Context) (s : Sought) {table₀ table : List ℕ} {b : Before} {
     pub same-left : (many : ℕ) → many ≡ n .children → many + b .link .0 - child ≡ left - 1
     same-left many z = omega (arith, z, behind-left, g .reaches .some)
 
+    -- the plan by which the child was searched
+    pub plan-was : planBehind (linkPlan s (shape (nodeOf n))) (child - b .link .0 - 1) ≡ planAt table₀ s (b .link .0) child
+    plan-was = ap (λ x. planBehind (linkPlan s (shape (nodeOf x))) (child - b .link .0 - 1)) (record-was ctx s k (g .reaches) (g .did) n e) ∙ ap (planBehind (linkPlan s (shape (nodeOf (nodeAt table₀ (16 * b .link .0)))))) (omega arith)
+
+    pub child-behind : {table′ table″ : List ℕ} {a q : Walked} → OfChildren ctx s table₀ (b .link .0) table′ a → OfNode ctx table′ table″ (b .link .0) n false s (behind false a) q → Searches ctx s table₀ table″ (b .link .0) q
+    child-behind r o = behind-searched ctx s k (g .reaches) (g .did) n e r o
+
+  -- the children, by that plan: where the search ended in the child, where that is a branch, where it is the last one, and
+  -- with the others
+  module _ (now : Plan) (z : now ≡ planAt table₀ s (b .link .0) child) where
+    enters-now : isNothing now ≡ false
+    enters-now = ap isNothing z ∙ g .reaches .enters
+
     abbrev Children : List ℕ → Walked → Type 0
-    Children table′ a = SearchesRow ctx s table₀ table′ (b .link .0 + 1) (n .children) (linkPlan s (shape (nodeOf n))) a
+    Children table′ a = OfChildren ctx s table₀ (b .link .0) table′ a
 
-    goes : Goes ctx s table₀ (b .link .0 + 1) (n .children) (linkPlan s (shape (nodeOf n))) table₀ child left (linkPlan s (shape (nodeOf n))) (b .effect) (b .looks)
-    goes = goes-was ctx s k (g .reaches) (g .did) n e
+    goes : Goes ctx s (OfChildren ctx s table₀ (b .link .0)) (b .link .0 + 1) table₀ child left now (b .effect) (b .looks)
+    goes = subst (λ p. Goes ctx s (OfChildren ctx s table₀ (b .link .0)) (b .link .0 + 1) table₀ child left p (b .effect) (b .looks)) (sym z) (g .reaches .goes)
 
-    -- the row of its children, where the search ended in the child, where that is the last one, and with the others
-    pub row-ended : {a : Walked} {end : ℕ} {effect : Bool} (q : Walked) → isPassed (w .answer) ≡ false → Passes table (w .next .0) (left - 1) end effect → q .answer ≡ Stopped → q .next .0 ≡ end → q .looks ≡ w .looks → a ≡ gather (b .effect) (b .looks) q → Children table a
-    row-ended q h p x y z r = goes-to ctx s goes r (λ replacement d pre ts rest t c b. row-stopped ctx s replacement d (linkPlan s (shape (nodeOf n))) (plan-enters s (shape (nodeOf n))) (g .did) ts c (g .reaches .some) t b h (g .not-found) (plan-no-branches s (shape (nodeOf n))) p x y z)
+    pub row-ended : {a : Walked} {end : ℕ} {effect : Bool} (q : Walked) → isPassed (w .answer) ≡ false → isBranches now ≡ false → Passes table (w .next .0) (left - 1) end effect → q .answer ≡ Stopped → q .next .0 ≡ end → q .looks ≡ w .looks → a ≡ gather (b .effect) (b .looks) q → Children table a
+    row-ended q h i p x y z r = goes-to ctx s goes r (λ replacement d pre ts rest t c b. row-stopped ctx s replacement d now enters-now (g .did) ts c (g .reaches .some) t b h (g .not-found) i p x y z)
+
+    pub row-branches : {table′ : List ℕ} {a others q : Walked} (many : ℕ) → many ≡ left - 1 → isPassed (w .answer) ≡ false → isBranches now ≡ true → SearchesRow ctx s table table′ (w .next .0) many All others → Either w others q → a ≡ gather (b .effect) (b .looks) q → Children table′ a
+    row-branches {table′} {others = others} many m h i v x r =
+        goes-to ctx s goes r (λ replacement d pre ts rest t c b. row-either ctx s replacement d now (g .did) ts c (g .reaches .some) t b h (g .not-found) i (subst (λ j. SearchesRow ctx s table table′ (w .next .0) j All others) m v) x)
 
     pub row-last : {a : Walked} → left - 1 ≡ 0 → a ≡ gather (b .effect) (b .looks) w → Children table a
-    row-last z r = goes-to ctx s goes r (one-searched ctx s left (linkPlan s (shape (nodeOf n))) (one-of (g .reaches .some) z) (plan-enters s (shape (nodeOf n))) (g .did))
+    row-last z r = goes-to ctx s goes r (one-searched ctx s left now (one-of (g .reaches .some) z) enters-now (g .did))
       where
         one-of : {m : ℕ} → (m ≡ 0 → ⊥) → m - 1 ≡ 0 → m ≡ 1
         one-of h z = omega (arith, h, z)
 
-    pub row-all : {table′ : List ℕ} {others a : Walked} (many : ℕ) → many ≡ left - 1 → (after : Plan) → isPassed (w .answer) ≡ true → planned after ≡ nextPlan (planned (linkPlan s (shape (nodeOf n)))) → SearchesRow ctx s table table′ (w .next .0) many after others → a ≡ gather (b .effect || w .effect) (b .looks + w .looks) others → Children table′ a
+    pub row-all : {table′ : List ℕ} {others a : Walked} (many : ℕ) → many ≡ left - 1 → (after : Plan) → isPassed (w .answer) ≡ true → planned after ≡ nextPlan (planned now) → SearchesRow ctx s table table′ (w .next .0) many after others → a ≡ gather (b .effect || w .effect) (b .looks + w .looks) others → Children table′ a
     row-all {table′} {others} many z after h q v r =
         goes-to ctx s
-        (goes-on ctx s after k goes (plan-enters s (shape (nodeOf n))) (g .did) (g .reaches .some) (g .not-found) h q)
+        (goes-on ctx s after k goes enters-now (g .did) (g .reaches .some) (g .not-found) h q)
         r
         (subst (λ m. SearchesRow ctx s table table′ (w .next .0) m after others) z v)
-
-    pub child-behind : {table′ table″ : List ℕ} {a q : Walked} → Children table′ a → OfNode ctx table′ table″ (b .link .0) n false s (behind false a) q → Searches ctx s table₀ table″ (b .link .0) q
-    child-behind r o = behind-searched ctx s k (g .reaches) (g .did) n e r o
-
--- what is replaced isn't passed
-pub not-passed : (a : Answer) → isReplaced a ≡ true → isPassed a ≡ false
-not-passed Replaced e = refl
-not-passed Stopped e = refl
-not-passed Passed e = sym e

@@ -1,12 +1,12 @@
 -- A branch in which the search ended, and the other one.
 use Prim.Native.Nat.{_+_}
-use mathlib.Core.Bool.{true, false}
+use mathlib.Core.Bool.{Bool, true, false, cond}
 use mathlib.Core.Path.{_≡_, refl, sym, ap, _∙_}
 use Rattle.records.proofs.Tests.{clash}
 use Rattle.plans.specs.declared.walked.Answer.{Answer}
 use Rattle.plans.specs.declared.walked.Answer.the-variants.{Replaced, Stopped, Passed}
 use Rattle.plans.specs.declared.walked.Walked.{Walked}
-use Rattle.plans.specs.Answers.{isReplaced, Either}
+use Rattle.plans.specs.Answers.{isPassed, isReplaced, Either}
 use Rattle.substitute.specs.OfNode.{gather}
 
 replaced-is : (a : Answer) → isReplaced a ≡ true → a ≡ Replaced
@@ -32,3 +32,11 @@ module _ (a b r : Walked) where
     indirect = λ g. clash (isReplaced (b .answer)) h g;
     looks = ap (λ w. w .looks) e;
   }
+
+  -- the search doesn't go on behind them
+  pub either-open : Either a b r → isPassed (r .answer) ≡ false
+  either-open e = ap isPassed (e .answer) ∙ no-pass (isReplaced (b .answer))
+    where
+      no-pass : (x : Bool) → isPassed (cond x Replaced Stopped) ≡ false
+      no-pass true = refl
+      no-pass false = refl

@@ -1,11 +1,11 @@
 -- A node without children that is not the name: the search passes it or ends at it.
-use Prim.Native.Nat.{ℕ, zero, suc, _+_, _<_}
+use Prim.Native.Nat.{ℕ, _+_}
 use native.Mathlib.Omega.{arith}
 use mathlib.Core.Bool.{Bool, true, false, _&&_, _||_, not, or-false}
 use mathlib.Core.List.{List}
 use mathlib.Core.Path.{_≡_, refl, sym, ap, _∙_, subst}
 use lib.Dec.{eqb, ltb}
-use borrow.Author.Tests.{eqb-true, ne-eqb, ltb-true}
+use borrow.Author.Tests.{eqb-true, ne-eqb}
 use Rattle.records.specs.Flags.{marked, computed, proto}
 use Rattle.records.specs.File.{one}
 use Rattle.records.specs.Place.{isExpression}
@@ -22,7 +22,7 @@ use Rattle.walk.specs.Unsettled.{unsettled}
 use Rattle.walk.specs.Looks.{ownLooks, looksInExpression, looksInChildren}
 use Rattle.walk.specs.Substitute.{passed, isSpecificId, substituteInExpression, substituteInChildren}
 use Rattle.plans.specs.declared.shape.Shape.{Shape}
-use Rattle.plans.specs.declared.shape.Shape.the-variants.{Constant, Identifier, Leaf}
+use Rattle.plans.specs.declared.shape.Shape.the-variants.{Constant, Identifier, TargetName, Leaf}
 use Rattle.plans.specs.declared.sought.Sought.{Sought}
 use Rattle.plans.specs.declared.walked.Answer.the-variants.{Passed}
 use Rattle.plans.specs.declared.walked.Walked.{Walked}
@@ -32,7 +32,7 @@ use Rattle.plans.specs.Described.{Describes}
 use Rattle.plans.specs.Passing.{reorders, stopsIn, MayPass}
 use Rattle.plans.specs.Search.{Did, passes, alone}
 use Rattle.plans.proofs.MayPass.{passBy, pass-by, pass-name, pass-settled}
-use Rattle.substitute.specs.OfNode.{isLeaf, movesLeaf, passesName, OfLeaf}
+use Rattle.substitute.specs.OfNode.{leafKind, isLeaf, movesLeaf, passesName, OfLeaf}
 use Rattle.substitute.proofs.OfNode.{node-of, of-passing}
 use Rattle.substitute.proofs.Searching.{node-is}
 
@@ -58,32 +58,46 @@ name-shape : (m : Node) → is 4 m ≡ true → shaped Identifier ≡ shapeOf m
 unfolding shapeOf
 name-shape m h = rw (eqb-true (m .kind) 4 h) refl
 
-leaf-shape : (m : Node) (k : ℕ) → m .kind ≡ k → k < 6 → (is 1 m || is 2 m || is 27 m) ≡ false → is 4 m ≡ false → shaped Leaf ≡ shapeOf m
-unfolding shapeOf
-leaf-shape m zero e l c i = rw e refl
-leaf-shape m (suc zero) e l c i = clash true (subst (λ z. (eqb z 1 || eqb z 2 || eqb z 27) ≡ false) e c) refl
-leaf-shape m (suc (suc zero)) e l c i = clash true (subst (λ z. (eqb z 1 || eqb z 2 || eqb z 27) ≡ false) e c) refl
-leaf-shape m (suc (suc (suc zero))) e l c i = rw e refl
-leaf-shape m (suc (suc (suc (suc zero)))) e l c i = clash true (subst (λ z. eqb z 4 ≡ false) e i) refl
-leaf-shape m (suc (suc (suc (suc (suc zero))))) e l c i = rw e refl
-leaf-shape m (suc (suc (suc (suc (suc (suc k)))))) e l c i = absurd (omega (arith, l))
+-- a kind of a leaf is one of these
+pub either-way : {A : Type 0} (a b : Bool) → (a || b) ≡ true → (a ≡ true → A) → (b ≡ true → A) → A
+either-way true b h f g = f refl
+either-way false b h f g = g h
 
--- a kind of a leaf that isn't 27
-small : (k : ℕ) → (ltb k 6 || eqb k 27) ≡ true → eqb k 27 ≡ false → k < 6
-small k h e = ltb-true k 6 (first (ltb k 6) (eqb k 27) h e)
-  where
-    first : (a b : Bool) → (a || b) ≡ true → b ≡ false → a ≡ true
-    first true b h e = refl
-    first false b h e = clash b e h
+by-kind : (P : ℕ → Type 0) → P 0 → P 1 → P 2 → P 3 → P 4 → P 5 → P 27 → P 29 → P 30 → (k : ℕ) → leafKind k ≡ true → P k
+by-kind P p0 p1 p2 p3 p4 p5 p27 p29 p30 k h =
+    let at : (c : ℕ) → P c → eqb k c ≡ true → P k = λ c p e. subst P (sym (eqb-true k c e)) p in
+    either-way _ _ h
+    (λ h. either-way _ _ h
+    (λ h. either-way _ _ h
+    (λ h. either-way _ _ h
+    (λ h. either-way _ _ h
+    (λ h. either-way _ _ h
+    (λ h. either-way _ _ h
+    (λ h. either-way _ _ h (at 0 p0) (at 1 p1)) (at 2 p2)) (at 3 p3)) (at 4 p4)) (at 5 p5)) (at 27 p27)) (at 29 p29)) (at 30 p30)
 
--- a leaf that is neither a constant nor a name
-other-shape : (n : NodeRecord) → (is 1 (nodeOf n) || is 2 (nodeOf n) || is 27 (nodeOf n)) ≡ false → is 4 (nodeOf n) ≡ false → isLeaf n ≡ true → shaped Leaf ≡ shapeOf (nodeOf n)
-unfolding nodeOf
+leaf-kind : (n : NodeRecord) → isLeaf n ≡ true → leafKind (n .kind) ≡ true
+leaf-kind n h = and-right (eqb (n .children) 0) (leafKind (n .kind)) h
+
+-- a leaf that is neither a constant nor a name: a target name, or another
+abbrev otherShape : Bool → Shape
+otherShape true = TargetName
+otherShape false = Leaf
+
+-- the shape of a kind without flags, label and position, which say nothing of a leaf
+abbrev kindShape : NodeRecord → ℕ → Type 0
+kindShape n k = n .kind ≡ k → (eqb k 1 || eqb k 2 || eqb k 27) ≡ false → eqb k 4 ≡ false → shaped (otherShape (eqb k 29)) ≡ shapeOf (nodeOf n)
+
+other-shape : (n : NodeRecord) → (is 1 (nodeOf n) || is 2 (nodeOf n) || is 27 (nodeOf n)) ≡ false → is 4 (nodeOf n) ≡ false → isLeaf n ≡ true → shaped (otherShape (is 29 (nodeOf n))) ≡ shapeOf (nodeOf n)
+unfolding nodeOf shapeOf
 other-shape n c i k =
-    leaf-shape (nodeOf n) (n .kind) refl (small (n .kind) (and-right (eqb (n .children) 0) (ltb (n .kind) 6 || eqb (n .kind) 27) k) (last (is 1 (nodeOf n)) (is 2 (nodeOf n)) (is 27 (nodeOf n)) c)) c i
-  where
-    last : (a b c : Bool) → (a || b || c) ≡ false → c ≡ false
-    last a b c h = neither (a || b) c h .1
+    by-kind (kindShape n)
+    (λ e c i. rw e refl) (λ e c i. clash true c refl) (λ e c i. clash true c refl) (λ e c i. rw e refl) (λ e c i. clash true i refl) (λ e c i. rw e refl) (λ e c i. clash true c refl) (λ e c i. rw e refl) (λ e c i. rw e refl)
+    (n .kind) (leaf-kind n k) refl c i
+
+-- no target ends the search of one
+steady-leaf : (ctx : Context) (target : Bool) (replacement : Tree) (kids : Trees) → false ≡ stopsIn ctx replacement (shaped (otherShape target)) kids
+steady-leaf ctx true replacement kids = refl
+steady-leaf ctx false replacement kids = refl
 
 -- whether it may be passed
 module _ (ctx : Context) (n : NodeRecord) (s : Sought) (own : Bool) where
@@ -91,9 +105,10 @@ module _ (ctx : Context) (n : NodeRecord) (s : Sought) (own : Bool) where
   unfolding passBy
   pass-constant replacement d kids o k t = pass-by ctx n s replacement d kids own false o k Constant false t (unsettled ctx (n .label)) refl
 
-  pass-leaf : MayPass ctx Leaf n s own false false (reorders s own)
+  pass-leaf : (target : Bool) → MayPass ctx (otherShape target) n s own false false (reorders s own)
   unfolding passBy
-  pass-leaf replacement d kids o k t = ap (reorders s) (sym (or-false own)) ∙ pass-by ctx n s replacement d kids own false o k Leaf false t (unsettled ctx (n .label)) refl
+  pass-leaf true replacement d kids o k t = ap (reorders s) (sym (or-false own)) ∙ pass-by ctx n s replacement d kids own false o k TargetName false t (unsettled ctx (n .label)) refl
+  pass-leaf false replacement d kids o k t = ap (reorders s) (sym (or-false own)) ∙ pass-by ctx n s replacement d kids own false o k Leaf false t (unsettled ctx (n .label)) refl
 
   pass-moved-name : reorders s own ≡ true → MayPass ctx Identifier n s own false false true
   pass-moved-name h replacement d kids o k t =
@@ -125,7 +140,7 @@ module _ (ctx : Context) (s : Sought) (at : NodeId) (n : NodeRecord) (own : Bool
   leaf-searched shape pass w st h r table e k i replacement d pre (node m kids) rest t b =
       let z = node-is e t in
       let f = ap nodeOf z ∙ node-of m (count kids) in
-      let c : count kids ≡ 0 = sym (ap (λ x. x .children) z) ∙ eqb-true (n .children) 0 (and-left (eqb (n .children) 0) (ltb (n .kind) 6 || eqb (n .kind) 27) k) in
+      let c : count kids ≡ 0 = sym (ap (λ x. x .children) z) ∙ eqb-true (n .children) 0 (and-left (eqb (n .children) 0) (leafKind (n .kind)) k) in
       leaf-alone shape pass replacement d m kids w (st replacement) z (h k) (h k ∙ ap shapeOf f) (subst (λ x. isSpecificId (s .name .0) x ≡ false) f i) c t r
 
   -- the three ways
@@ -136,7 +151,7 @@ module _ (ctx : Context) (s : Sought) (at : NodeId) (n : NodeRecord) (own : Bool
       by : (constant : Bool) → (eqb (n .kind) 1 || eqb (n .kind) 2 || eqb (n .kind) 27) ≡ constant → (name : Bool) → eqb (n .kind) 4 ≡ name → (constant || reorders s own) ≡ true → OfLeaf ctx (at .0) n s q
       by true c name i h = leaf-searched Constant true (pass-constant ctx n s own) (λ R kids. refl) (λ k. constant-shape (nodeOf n) c) r
       by false c true i h = leaf-searched Identifier true (pass-moved-name ctx n s own h) (λ R kids. refl) (λ k. name-shape (nodeOf n) i) r
-      by false c false i h = leaf-searched Leaf true (subst (MayPass ctx Leaf n s own false false) h (pass-leaf ctx n s own)) (λ R kids. refl) (λ k. other-shape n c i k) r
+      by false c false i h = leaf-searched (otherShape (is 29 (nodeOf n))) true (subst (MayPass ctx (otherShape (is 29 (nodeOf n))) n s own false false) h (pass-leaf ctx n s own (is 29 (nodeOf n)))) (steady-leaf ctx (is 29 (nodeOf n))) (λ k. other-shape n c i k) r
 
   leaf-name : {q : Walked} (blocks : Bool) → eqb (n .kind) 4 ≡ true → reorders s own ≡ false → blocks ≡ unsettled ctx (n .label) → q ≡ byPassing (not blocks) next own looks → OfLeaf ctx (at .0) n s q
   unfolding nodeOf
@@ -144,7 +159,7 @@ module _ (ctx : Context) (s : Sought) (at : NodeId) (n : NodeRecord) (own : Bool
 
   leaf-stopped : {q : Walked} → (eqb (n .kind) 1 || eqb (n .kind) 2 || eqb (n .kind) 27) ≡ false → eqb (n .kind) 4 ≡ false → reorders s own ≡ false → q ≡ byPassing false next own looks → OfLeaf ctx (at .0) n s q
   unfolding nodeOf
-  leaf-stopped c i m r = leaf-searched Leaf false (subst (MayPass ctx Leaf n s own false false) m (pass-leaf ctx n s own)) (λ R kids. refl) (λ k. other-shape n c i k) r
+  leaf-stopped c i m r = leaf-searched (otherShape (is 29 (nodeOf n))) false (subst (MayPass ctx (otherShape (is 29 (nodeOf n))) n s own false false) m (pass-leaf ctx n s own (is 29 (nodeOf n)))) (steady-leaf ctx (is 29 (nodeOf n))) (λ k. other-shape n c i k) r
 
   pub leaf-by : {q : Walked} (pass : Bool) → pass ≡ (movesLeaf n s || passesName ctx n) → q ≡ byPassing pass next own looks → OfLeaf ctx (at .0) n s q
   leaf-by {q} pass w r = by (eqb (n .kind) 1 || eqb (n .kind) 2 || eqb (n .kind) 27 || reorders s own) refl (eqb (n .kind) 4) refl (subst (λ x. pass ≡ ((eqb (n .kind) 1 || eqb (n .kind) 2 || eqb (n .kind) 27 || reorders s x) || passesName ctx n)) (sym o) w)
@@ -155,29 +170,14 @@ module _ (ctx : Context) (s : Sought) (at : NodeId) (n : NodeRecord) (own : Bool
       by false h true i z = leaf-name (unsettled ctx (n .label)) i (neither (eqb (n .kind) 1 || eqb (n .kind) 2 || eqb (n .kind) 27) (reorders s own) h .1) refl (r ∙ ap (λ x. byPassing x next own looks) (z ∙ or-and (eqb (n .kind) 1 || eqb (n .kind) 2 || eqb (n .kind) 27 || reorders s own) (eqb (n .kind) 4) (not (unsettled ctx (n .label))) true h i))
       by false h false i z = let (c, m) = neither (eqb (n .kind) 1 || eqb (n .kind) 2 || eqb (n .kind) 27) (reorders s own) h in leaf-stopped c i m (r ∙ ap (λ x. byPassing x next own looks) (z ∙ or-and (eqb (n .kind) 1 || eqb (n .kind) 2 || eqb (n .kind) 27 || reorders s own) (eqb (n .kind) 4) (not (unsettled ctx (n .label))) false h i))
 
+-- a literal is placed behind any leaf
+pub moves-literal : (n : NodeRecord) (s : Sought) → s .literal ≡ true → movesLeaf n s ≡ true
+moves-literal n s h = or-second (eqb (n .kind) 1 || eqb (n .kind) 2 || eqb (n .kind) 27) (reorders s (hasEffect (nodeOf n))) (or-second (not (s .effect) && not (hasEffect (nodeOf n))) (s .literal) h)
+
 -- The effect and the looks of a leaf, by its kind.
-by-kind : (P : ℕ → Type 0) → P 0 → P 1 → P 2 → P 3 → P 4 → P 5 → P 27 → (k : ℕ) → (ltb k 6 || eqb k 27) ≡ true → P k
-by-kind P p0 p1 p2 p3 p4 p5 p27 k h = at (eqb k 27) refl
-  where
-    below : (k : ℕ) → k < 6 → P k
-    below zero l = p0
-    below (suc zero) l = p1
-    below (suc (suc zero)) l = p2
-    below (suc (suc (suc zero))) l = p3
-    below (suc (suc (suc (suc zero)))) l = p4
-    below (suc (suc (suc (suc (suc zero))))) l = p5
-    below (suc (suc (suc (suc (suc (suc k)))))) l = absurd (omega (arith, l))
-
-    at : (b : Bool) → eqb k 27 ≡ b → P k
-    at true e = subst P (sym (eqb-true k 27 e)) p27
-    at false e = below k (small k h e)
-
-leaf-kind : (n : NodeRecord) → isLeaf n ≡ true → (ltb (n .kind) 6 || eqb (n .kind) 27) ≡ true
-leaf-kind n h = and-right (eqb (n .children) 0) (ltb (n .kind) 6 || eqb (n .kind) 27) h
-
 pub leaf-marked : (n : NodeRecord) → isLeaf n ≡ true → marked (n .flags) ≡ hasEffect (nodeOf n)
 unfolding nodeOf hasEffect
-leaf-marked n h = by-kind (λ k. marked (n .flags) ≡ (marked (n .flags) || eqb k 6 || eqb k 7 || eqb k 8 || eqb k 20)) off off off off off off off (n .kind) (leaf-kind n h)
+leaf-marked n h = by-kind (λ k. marked (n .flags) ≡ (marked (n .flags) || eqb k 6 || eqb k 7 || eqb k 8 || eqb k 20)) off off off off off off off off off (n .kind) (leaf-kind n h)
   where
     no-more : (b : Bool) → b ≡ (b || false || false || false || false)
     no-more true = refl
@@ -186,6 +186,6 @@ leaf-marked n h = by-kind (λ k. marked (n .flags) ≡ (marked (n .flags) || eqb
     off : marked (n .flags) ≡ (marked (n .flags) || false || false || false || false)
     off = no-more (marked (n .flags))
 
-pub leaf-looked : (n : NodeRecord) → isLeaf n ≡ true → one (not (eqb (n .kind) 27)) ≡ ownLooks (nodeOf n)
+pub leaf-looked : (n : NodeRecord) → isLeaf n ≡ true → one (ltb (n .kind) 6) ≡ ownLooks (nodeOf n)
 unfolding nodeOf ownLooks isExpression
-leaf-looked n h = by-kind (λ k. one (not (eqb k 27)) ≡ one (ltb k 25 || eqb k 28 || eqb k 26 && computed (n .flags) && proto (n .flags))) refl refl refl refl refl refl refl (n .kind) (leaf-kind n h)
+leaf-looked n h = by-kind (λ k. one (ltb k 6) ≡ one (ltb k 25 || eqb k 28 || eqb k 26 && computed (n .flags) && proto (n .flags))) refl refl refl refl refl refl refl refl refl (n .kind) (leaf-kind n h)

@@ -8,7 +8,10 @@ pub mod Looking
 pub mod Searching
 pub mod Nodes
 pub mod Going
+pub mod ShapeCases
+pub mod PlansBehind
 pub mod Chain
 pub mod Reaching
+pub mod Values
 pub mod Moving
 pub mod LinkKinds

@@ -1,18 +1,17 @@
 -- A link that may change places with the tree to place: it is passed where its children are.
 use Prim.Native.Nat.{ℕ, _+_}
-use mathlib.Core.Bool.{Bool, true, false, cond, _&&_, _||_, not}
+use mathlib.Core.Bool.{Bool, true, false, _&&_, _||_, not}
 use mathlib.Core.List.{List}
 use mathlib.Core.Path.{_≡_, refl, sym, ap, _∙_, subst}
 use lib.Dec.{eqb}
 use borrow.Author.Tests.{not-true}
-use Rattle.records.specs.Flags.{computed, compound, optional}
-use Rattle.records.specs.Node.{twoChildren}
+use Rattle.records.specs.Flags.{computed}
 use Rattle.records.specs.Tree.{Node, nodeOf}
 use Rattle.records.specs.declared.layout.NodeRecord.{NodeRecord}
 use Rattle.records.proofs.Tests.{both, neither, clash}
 use Rattle.walk.specs.Context.{Context}
 use Rattle.walk.specs.Effect.{hasEffect}
-use Rattle.walk.specs.Shape.{is, isMemberExpression, never, skips, cuts, picks, Shape as RuleShape, constant, identifier, targetName, leaf, chain, import, delete, sequence, property, stopping, assignment, steps, shape as shapeOf}
+use Rattle.walk.specs.Shape.{is, never, skips, cuts, picks, Shape as RuleShape, constant, identifier, targetName, leaf, chain, import, delete, sequence, property, stopping, assignment, steps, shape as shapeOf}
 use Rattle.walk.specs.Unsettled.{unsettled}
 use Rattle.walk.specs.Looks.{ownLooks}
 use Rattle.plans.specs.declared.shape.Shape.{Shape}
@@ -25,6 +24,7 @@ use Rattle.plans.specs.Passing.{reorders, MayPass}
 use Rattle.plans.proofs.MayPass.{passBy, pass-by}
 use Rattle.substitute.specs.OfNode.{OfNode, movesLink}
 use Rattle.substitute.proofs.OfNode.{of-passing}
+use Rattle.substitute.proofs.ShapeCases.{shape-by}
 
 -- the code's shape for a rule's
 shape-for : (x : RuleShape) → (y : Shape) × (shaped y ≡ x)
@@ -84,31 +84,9 @@ moved Optional unset quiet keyed h = refl
 moved Steps unset quiet keyed h = refl
 
 -- the shape of a node that is no spread and no property
-either-way : (b : Bool) (x y : RuleShape) → moving x ≡ true → moving y ≡ true → moving (cond b x y) ≡ true
-either-way true x y p q = p
-either-way false x y p q = q
-
-never-so : (b : Bool) (x y : RuleShape) → b ≡ false → moving y ≡ true → moving (cond b x y) ≡ true
-never-so true x y h q = clash true h refl
-never-so false x y h q = q
-
 moving-shape : (m : Node) → is 25 m ≡ false → is 26 m ≡ false → moving (shapeOf m) ≡ true
-unfolding shapeOf
 moving-shape m k25 k26 =
-    either-way (is 1 m || is 2 m || is 27 m) constant _ refl
-    (either-way (is 4 m) identifier _ refl
-    (either-way (is 29 m) targetName _ refl
-    (either-way (is 0 m || is 3 m || is 5 m || is 30 m) leaf _ refl
-    (either-way (is 13 m) chain _ refl
-    (either-way (is 8 m) import _ refl
-    (either-way (is 9 m && eqb (m .label) 1) delete _ refl
-    (either-way (is 28 m) sequence _ refl
-    (never-so (is 26 m) (cond (twoChildren (m .flags)) stopping property) _ k26
-    (never-so (is 25 m) stopping _ k25
-    (either-way (is 20 m) (assignment (compound (m .flags))) _ refl
-    (either-way (is 17 m) (steps skips) _ refl
-    (either-way (is 19 m) (steps picks) _ refl
-    (either-way ((isMemberExpression m || is 14 m) && optional (m .flags)) (steps cuts) (steps never) refl refl)))))))))))))
+    shape-by (λ x. moving x ≡ true) m refl refl refl refl refl refl refl refl (λ h. clash (is 26 m) k26 h) (λ h. clash (is 25 m) k25 h) refl (λ _. refl) (λ _. refl) (λ _. refl) refl
 
 module _ (ctx : Context) (n : NodeRecord) (s : Sought) (own children : Bool) (h : movesLink n s (own || children) ≡ true) where
   may-move : (x : Shape) → shaped x ≡ shapeOf (nodeOf n) → MayPass ctx x n s own children false true

@@ -1,5 +1,5 @@
--- The child of a link that the search goes down to.
-use Prim.Native.Nat.{ℕ, _+_, _*_, _-_, _≤_, _<_}
+-- The child of a link that the search goes down to. Assumes nothing.
+use Prim.Native.Nat.{ℕ, suc, _+_, _*_, _-_, _≤_, _<_}
 use native.Mathlib.Omega.{arith}
 use mathlib.Core.Bool.{Bool, true, false, _||_}
 use mathlib.Core.List.{List}
@@ -12,46 +12,80 @@ use Rattle.walk.specs.Context.{Context}
 use Rattle.walk.specs.Effect.{hasEffect}
 use Rattle.walk.specs.Shape.{shape}
 use Rattle.walk.specs.Looks.{ownLooks}
-use Rattle.walk.specs.Substitute.{isSpecificId, next as nextPlan}
+use Rattle.walk.specs.Substitute.{isSpecificId}
+use Rattle.plans.specs.declared.begin.Begun.{Begun}
 use Rattle.plans.specs.declared.plan.Plan.{Plan}
-use Rattle.plans.specs.declared.plan.Plan.the-variants.{All}
 use Rattle.plans.specs.declared.sought.Sought.{Sought}
 use Rattle.plans.specs.declared.walked.Answer.the-variants.{Passed}
 use Rattle.plans.specs.declared.walked.Walked.{Walked}
 use Rattle.plans.specs.Shapes.{planned}
+use Rattle.plans.specs.Plans.{isNothing}
+use Rattle.plans.specs.Begins.{BeginsAt}
 use Rattle.plans.specs.Described.{Known}
-use Rattle.plans.specs.Search.{Searchable, Searches}
-use Rattle.substitute.specs.OfNode.{isLeaf, movesLeaf, passesName}
-use Rattle.substitute.specs.Links.{IsLink, Goes, no-leaves, one-more, planAt, Reaches}
+use Rattle.plans.specs.Search.{Searchable, Searches, SearchesRow}
+use Rattle.substitute.specs.OfNode.{gather, isLeaf, movesLeaf, passesName, PassedLeaf}
+use Rattle.substitute.specs.Links.{linkPlan, nextOf, planBehind, onward, IsLink, Goes, OfChildren, no-leaves, one-more, planAt, Reaches, EntersAt, Links, start, link, LinksTo, Going, begun, through}
 use Rattle.substitute.proofs.Leaves.{leaf-by}
 use Rattle.substitute.proofs.Searching.{searchable-room, first-searchable}
-use Rattle.substitute.proofs.Going.{goes-start, goes-on}
-use Rattle.substitute.proofs.Chain.{plan-enters, children-row}
+use Rattle.substitute.proofs.Nodes.{begun-row}
+use Rattle.substitute.proofs.PlansBehind.{next-is, onward-enters, onward-behind}
+use Rattle.substitute.proofs.Going.{gather-none, goes-start, goes-on}
+use Rattle.substitute.proofs.Chain.{plan-enters, children-row, link-children, link-steady, links-seen}
 
 -- A leaf that is passed, as the search says it.
-abbrev pub passedLeaf : ℕ → NodeRecord → Walked
+abbrev passedLeaf : ℕ → NodeRecord → Walked
 passedLeaf at n = record { next = record { 0 = at + 1 }; place = record { 0 = at + 1 }; looks = ownLooks (nodeOf n); answer = Passed; effect = hasEffect (nodeOf n); indirect = false }
 
-pub leaf-is-passed : (ctx : Context) (s : Sought) {table : List ℕ} {at : ℕ} (n : NodeRecord) → n ≡ nodeAt table (16 * at) → isLeaf n ≡ true → isSpecificId (s .name .0) (nodeOf n) ≡ false → (movesLeaf n s || passesName ctx n) ≡ true → Searches ctx s table table at (passedLeaf at n)
-leaf-is-passed ctx s {table} {at} n e l i h = leaf-by ctx s (record { 0 = at }) n (hasEffect (nodeOf n)) refl (ownLooks (nodeOf n)) refl (record { 0 = at + 1 }) refl true (sym h) refl table e l i
+leaf-is-passed : (ctx : Context) (s : Sought) {table : List ℕ} {at : ℕ} (n : NodeRecord) → n ≡ nodeAt table (16 * at) → PassedLeaf ctx s n → Searches ctx s table table at (passedLeaf at n)
+leaf-is-passed ctx s {table} {at} n e p = leaf-by ctx s (record { 0 = at }) n (hasEffect (nodeOf n)) refl (ownLooks (nodeOf n)) refl (record { 0 = at + 1 }) refl true (sym (p .passes)) refl table e (p .bare) (p .other)
 
-all-again : (p : Plan) → p ≡ All → planned p ≡ nextPlan (planned p)
-unfolding nextPlan
-all-again p z = rw z refl
+-- What the search of a node does from where it begins on.
+pub begun-goes : (ctx : Context) (s : Sought) {table : List ℕ} {at : ℕ} (g : Begun) → Known s → Searchable table at → BeginsAt ctx table at s g → g .indirect ≡ false
+    → Goes ctx s (OfChildren ctx s table at) (at + 1) table (g .next .0) (g .left) (g .plan) (g .effect) 0
+begun-goes ctx s g k h w i =
+    let (row, later) = begun-row ctx w k h in
+    record {
+      row = row;
+      seen = omega (arith, later);
+      on = λ {table′} {r} v replacement d pre m kids rest t b.
+          let (left, before, x) = w replacement d pre m kids rest t in
+          let (y, z) = v replacement d before left rest (x .here) (x .many) (x .bare b) in
+          (x .on i y (record { answer = refl; next = refl; effects = refl; place = refl; indirect = refl }), omega (arith, z, x .looks i));
+    }
+
+-- the plan for the first child
+plan-first : (s : Sought) (table : List ℕ) (at : ℕ) → planAt table s at (at + 1) ≡ linkPlan s (shape (nodeOf (nodeAt table (16 * at))))
+unfolding planBehind
+plan-first s table at = ap (planBehind (linkPlan s (shape (nodeOf (nodeAt table (16 * at)))))) (none-before at)
+  where
+    none-before : (k : ℕ) → k + 1 - (k + 1) ≡ 0
+    none-before k = omega arith
 
 module _ (ctx : Context) (s : Sought) {table : List ℕ} {at : ℕ} where
   -- the first child
-  pub reaches-first : (n : NodeRecord) → n ≡ nodeAt table (16 * at) → Searchable table at → IsLink n s → (left : ℕ) → left ≡ n .children → Reaches ctx s table at (at + 1) left false 0
-  reaches-first n e h l left m =
-      let z : left ≡ nodeAt table (16 * at) .children = m ∙ ap (λ x. x .children) e in
+  pub enters-first : (n : NodeRecord) → n ≡ nodeAt table (16 * at) → Searchable table at → IsLink n s → EntersAt ctx s table at 1
+  enters-first n e h l =
+      let q = nodeAt table (16 * at) in
+      let m : IsLink q s = subst (λ x. IsLink x s) e l in
+      let z : q .children ≡ q .children + 1 - 1 = omega arith in
       record {
         here = h;
-        link = subst (λ x. IsLink x s) e l;
+        children = m .some;
+        other = m .other;
+        kept = m .kept;
+        steady = link-steady ctx s n e l;
         later = omega arith;
         leaves = no-leaves refl;
-        some = λ x. l .some (sym m ∙ x);
-        many = omega (arith, z);
-        goes = subst (λ k. Goes ctx s table (at + 1) (nodeAt table (16 * at) .children) (planAt table s at) table (at + 1) k (planAt table s at) false 0) (sym z) (goes-start ctx s (children-row h));
+        some = λ x. m .some (omega (arith, x));
+        many = omega arith;
+        enters = ap isNothing (plan-first s table at) ∙ plan-enters s (shape (nodeOf q));
+        goes = subst (λ p. Goes ctx s (OfChildren ctx s table at) (at + 1) table (at + 1) (q .children + 1 - 1) p false 0) (sym (plan-first s table at))
+            (subst (λ k. Goes ctx s (OfChildren ctx s table at) (at + 1) table (at + 1) k (linkPlan s (shape (nodeOf q))) false 0) z
+            (record {
+              row = children-row h;
+              seen = omega arith;
+              on = λ {table′} {r} w. link-children ctx s q refl m (subst (SearchesRow ctx s table table′ (at + 1) (q .children) (linkPlan s (shape (nodeOf q)))) (gather-none r) w);
+            }));
       }
 
   module _ {child left : ℕ} {effect : Bool} {looks : ℕ} (g : Reaches ctx s table at child left effect looks) where
@@ -61,17 +95,61 @@ module _ (ctx : Context) (s : Sought) {table : List ℕ} {at : ℕ} where
     pub child-room : 16 * child + 16 ≤ length table
     child-room = searchable-room child-here
 
+    -- the plan behind one child more
+    plan-next : planAt table s at (child + 1) ≡ nextOf (planAt table s at child)
+    unfolding planBehind
+    plan-next = ap (planBehind (linkPlan s (shape (nodeOf (nodeAt table (16 * at)))))) (one-further (g .later))
+      where
+        one-further : at < child → child + 1 - (at + 1) ≡ suc (child - (at + 1))
+        one-further l = omega (arith, l)
+
     -- the next one, behind a leaf that is passed
-    pub reaches-next : Known s → (n : NodeRecord) → n ≡ nodeAt table (16 * child) → planAt table s at ≡ All → isLeaf n ≡ true → isSpecificId (s .name .0) (nodeOf n) ≡ false → (movesLeaf n s || passesName ctx n) ≡ true → 0 < left - 1
+    pub reaches-next : Known s → (n : NodeRecord) → n ≡ nodeAt table (16 * child) → onward (linkPlan s (shape (nodeOf (nodeAt table (16 * at))))) ≡ true → PassedLeaf ctx s n → 2 ≤ left
         → Reaches ctx s table at (child + 1) (left - 1) (effect || hasEffect (nodeOf (nodeAt table (16 * child)))) (looks + ownLooks (nodeOf (nodeAt table (16 * child))))
-    reaches-next k n e p l i h m =
+    reaches-next k n e p l m =
+        let o = onward-behind (linkPlan s (shape (nodeOf (nodeAt table (16 * at))))) in
         record {
           here = g .here;
-          link = g .link;
+          children = g .children;
+          other = g .other;
+          kept = g .kept;
+          steady = g .steady;
           later = omega (arith, g .later);
-          leaves = one-more refl (subst (λ x. isLeaf x ≡ true) e l) (g .leaves);
+          leaves = one-more refl (subst (λ x. isLeaf x ≡ true) e (l .bare)) (g .leaves);
           some = λ z. omega (arith, z, m);
           many = omega (arith, g .many, m);
-          goes = subst (λ x. Goes ctx s table (at + 1) (nodeAt table (16 * at) .children) (planAt table s at) table (child + 1) (left - 1) (planAt table s at) (effect || hasEffect (nodeOf x)) (looks + ownLooks (nodeOf x))) e
-              (goes-on ctx s (planAt table s at) k (g .goes) (plan-enters s (shape (nodeOf (nodeAt table (16 * at))))) (leaf-is-passed ctx s n e l i h) (g .some) refl refl (all-again (planAt table s at) p));
+          enters = onward-enters (planAt table s at (child + 1)) (o (child + 1 - (at + 1)) p);
+          goes = subst (λ x. Goes ctx s (OfChildren ctx s table at) (at + 1) table (child + 1) (left - 1) (planAt table s at (child + 1)) (effect || hasEffect (nodeOf x)) (looks + ownLooks (nodeOf x))) e
+              (goes-on ctx s (planAt table s at (child + 1)) k (g .goes) (g .enters) (leaf-is-passed ctx s n e l) (g .some) refl refl (ap planned plan-next ∙ next-is (planAt table s at child)));
         }
+
+-- On the way down.
+module _ (ctx : Context) (s : Sought) {table : List ℕ} {at next left : ℕ} {above : NodeRecord} where
+  pub going-links : {looks : ℕ} → Going ctx s table at next left above looks → Links ctx s table at next looks
+  going-links (begun e z) = start e
+  going-links (through e r ls) = link r ls
+
+  pub going-seen : {looks : ℕ} → Going ctx s table at next left above looks → at + looks ≤ next
+  going-seen g = links-seen (going-links g)
+
+  -- past a leaf
+  pub going-on : {looks : ℕ} → Known s → Going ctx s table at next left above looks → (n : NodeRecord) → n ≡ nodeAt table (16 * next) → 2 ≤ left → onward (linkPlan s (shape (nodeOf above))) ≡ true → PassedLeaf ctx s n
+      → (own : ℕ) → own ≡ ownLooks (nodeOf n) → Searchable table (next + 1) × Going ctx s table at (next + 1) (left - 1) above (looks + own)
+  going-on k (begun e z) n f m p l own o = absurd (omega (arith, z, m))
+  going-on k (through {above = up} {looks = more} {seen = seen} e r ls) n f m p l own o =
+      let x = reaches-next ctx s r k n f (subst (λ x. onward (linkPlan s (shape (nodeOf x))) ≡ true) e p) l m in
+      let z : seen + (ownLooks (nodeOf (nodeAt table (16 * up))) + (more + ownLooks (nodeOf (nodeAt table (16 * next))))) ≡ seen + (ownLooks (nodeOf (nodeAt table (16 * up))) + more) + own = omega (arith, o, ap (λ y. ownLooks (nodeOf y)) f) in
+      (child-here ctx s x, subst (Going ctx s table at (next + 1) (left - 1) above) z (through e x ls))
+
+  -- down through a node
+  pub going-down : {looks : ℕ} → Going ctx s table at next left above looks → (n : NodeRecord) → n ≡ nodeAt table (16 * next) → (far : ℕ) → EntersAt ctx s table next far → (own : ℕ) → own ≡ ownLooks (nodeOf n)
+      → (many : ℕ) → many ≡ n .children → Searchable table (next + far) × Going ctx s table at (next + far) (many + 1 - far) n (looks + own)
+  going-down {looks} g n f far x own o many c =
+      let z : looks + (ownLooks (nodeOf (nodeAt table (16 * next))) + 0) ≡ looks + own = omega (arith, o, ap (λ y. ownLooks (nodeOf y)) f) in
+      let q : nodeAt table (16 * next) .children + 1 - far ≡ many + 1 - far = ap (λ y. y + 1 - far) (sym (c ∙ ap (λ y. y .children) f)) in
+      (child-here ctx s x, subst (Going ctx s table at (next + far) (many + 1 - far) n) z (subst (λ k. Going ctx s table at (next + far) k n (looks + (ownLooks (nodeOf (nodeAt table (16 * next))) + 0))) q (through f x (going-links g))))
+
+-- the same, of other names for the same numbers
+pub going-as : (ctx : Context) (s : Sought) (table : List ℕ) (at : ℕ) {next next′ left left′ looks looks′ : ℕ} {above above′ : NodeRecord} → next′ ≡ next → left′ ≡ left → looks′ ≡ looks → above′ ≡ above
+    → Searchable table next × Going ctx s table at next left above looks → Searchable table next′ × Going ctx s table at next′ left′ above′ looks′
+going-as ctx s table at a b c d g = rw (a, b, c, d) g

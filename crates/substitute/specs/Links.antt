@@ -1,26 +1,30 @@
 -- Nodes each of which is a child of the one before, behind leaves, down to the one that is searched first.
-use Prim.Native.Nat.{ℕ, _+_, _*_, _≤_, _<_}
+use Prim.Native.Nat.{ℕ, zero, suc, _+_, _-_, _*_, _≤_, _<_}
 use mathlib.Core.Bool.{Bool, true, false, cond, _||_}
-use mathlib.Core.List.{List}
+use mathlib.Core.List.{List, _++_}
 use mathlib.Core.Path.{_≡_}
 use lib.ListN.{length}
+use lib.Dec.{eqb}
 use Rattle.records.specs.Record.{nodeAt}
-use Rattle.records.specs.Tree.{Tree, Trees, nodeOf}
+use Rattle.records.specs.Tree.{Node, Tree, Trees, node, count, recordOf, nodeOf}
 use Rattle.records.specs.declared.layout.NodeRecord.{NodeRecord}
+use Rattle.table.specs.Table.{workBytes}
+use Rattle.table.specs.Laid.{TreeAt}
 use Rattle.walk.specs.Context.{Context}
-use Rattle.walk.specs.Shape.{is, never, skips, cuts, picks, Shape as RuleShape, constant, identifier, targetName, leaf, chain, import, delete, sequence, property, stopping, assignment, steps, shape}
+use Rattle.walk.specs.Shape.{is, never, skips, cuts, picks, Shape as RuleShape, constant, identifier, targetName, leaf, chain, import, delete, sequence, property, stopping, assignment, steps, shape, cleared}
 use Rattle.walk.specs.Effect.{hasEffect}
-use Rattle.walk.specs.Looks.{ownLooks}
-use Rattle.walk.specs.Substitute.{plan}
+use Rattle.walk.specs.Looks.{ownLooks, looksInChildren}
+use Rattle.walk.specs.Substitute.{plan, substituteInChildren}
 use Rattle.plans.specs.declared.plan.Plan.{Plan}
-use Rattle.plans.specs.declared.plan.Plan.the-variants.{All, First, Test}
+use Rattle.plans.specs.declared.plan.Plan.the-variants.{All, First, Nothing, Test, Branches}
 use Rattle.plans.specs.declared.sought.Sought.{Sought}
 use Rattle.plans.specs.declared.walked.Walked.{Walked}
 use Rattle.plans.specs.Shapes.{planned}
+use Rattle.plans.specs.Plans.{isNothing}
 use Rattle.plans.specs.Answers.{isReplaced}
 use Rattle.plans.specs.Described.{Describes, Known}
 use Rattle.plans.specs.Passing.{stopsIn}
-use Rattle.plans.specs.Search.{Searchable, SearchableRow, Searches, SearchesRow}
+use Rattle.plans.specs.Search.{allBareNames, Searchable, SearchableRow, Did, Searches, SearchesRow}
 use Rattle.substitute.specs.declared.descent.Before.{Before}
 use Rattle.substitute.specs.OfNode.{gather, isLeaf}
 
@@ -42,19 +46,68 @@ linkPlan s (steps skips) = cond (s .effect) First All
 linkPlan s (steps cuts) = cond (s .effect) First All
 linkPlan s (steps picks) = cond (s .effect) First Test
 
--- a node with children, the first of which is searched first; it is no name and no assignment
+-- Kinds whose children are searched from the first on, whatever they are: await, yield, binary, private-in, array, object and
+-- template; members; import, chain, logical, conditional, spread and sequence.
+abbrev pub plainKind : ℕ → Bool
+plainKind k = eqb k 6 || eqb k 7 || eqb k 16 || eqb k 18 || eqb k 21 || eqb k 22 || eqb k 23
+
+abbrev pub memberKind : ℕ → Bool
+memberKind k = eqb k 10 || eqb k 11 || eqb k 12
+
+unfoldable pub linkKind : ℕ → Bool
+linkKind k = plainKind k || memberKind k || eqb k 8 || eqb k 13 || eqb k 17 || eqb k 19 || eqb k 25 || eqb k 28
+
+-- the plan for the children behind the first, and behind so many
+abbrev pub nextOf : Plan → Plan
+nextOf All = All
+nextOf First = Nothing
+nextOf Nothing = Nothing
+nextOf Test = Branches
+nextOf Branches = All
+
+unfoldable pub planBehind : Plan → ℕ → Plan
+planBehind p zero = p
+planBehind p (suc k) = nextOf (planBehind p k)
+
+-- each child is entered, until one gives an answer
+abbrev pub onward : Plan → Bool
+onward All = true
+onward First = false
+onward Nothing = false
+onward Test = true
+onward Branches = true
+
+-- a node with children, the first of which is searched first; it is no name, no assignment and no shorthand
 pub record IsLink (n : NodeRecord) (s : Sought) : Type 0 where
   pub some : n .children ≡ 0 → ⊥
   pub other : is 4 (nodeOf n) ≡ false
+  pub kept : cleared (nodeOf n) .flags ≡ n .flags
   pub steady : (ctx : Context) (replacement : Tree) (kids : Trees) → false ≡ stopsIn ctx replacement (shape (nodeOf n)) kids
   pub enters : (ctx : Context) (replacement : Tree) → Describes s replacement → (kids : Trees) → planned (linkPlan s (shape (nodeOf n))) ≡ plan ctx (s .name .0) replacement (shape (nodeOf n)) (nodeOf n) kids
 
--- Of `many` trees from `at` on, searched by `plan`, `left` are left from `next` on, in the table as it is now: what their
--- search by the plan `now` does gives, with the effect and the looks of the others, what the search of all does.
-pub record Goes (ctx : Context) (s : Sought) (table₀ : List ℕ) (at many : ℕ) (plan : Plan) (table : List ℕ) (next left : ℕ) (now : Plan) (effect : Bool) (looks : ℕ) : Type 0 where
+-- Of some trees from `at` on, `left` are left from `next` on, in the table as it is now: what their search by the plan `now`
+-- does gives, with the effect and the looks of the others, what the search of all does, `Whole`.
+pub record Goes (ctx : Context) (s : Sought) (Whole : List ℕ → Walked → Type 0) (at : ℕ) (table : List ℕ) (next left : ℕ) (now : Plan) (effect : Bool) (looks : ℕ) : Type 0 where
   pub row : SearchableRow table next left
   pub seen : at + looks ≤ next
-  pub on : {table′ : List ℕ} {r : Walked} → SearchesRow ctx s table table′ next left now r → SearchesRow ctx s table₀ table′ at many plan (gather effect looks r)
+  pub on : {table′ : List ℕ} {r : Walked} → SearchesRow ctx s table table′ next left now r → Whole table′ (gather effect looks r)
+
+-- the search of a row
+abbrev pub OfRow : Context → Sought → List ℕ → ℕ → ℕ → Plan → List ℕ → Walked → Type 0
+OfRow ctx s table at many plan table′ r = SearchesRow ctx s table table′ at many plan r
+
+-- the search of the children of the node at a place, by its own plan
+abbrev pub OfChildren : Context → Sought → List ℕ → ℕ → List ℕ → Walked → Type 0
+OfChildren ctx s table at table′ r =
+    (replacement : Tree) → Describes s replacement → (pre : List ℕ) (n : Node) (kids : Trees) (rest : List ℕ) → TreeAt table at (node n kids) pre rest → allBareNames kids ≡ true
+    → Did table′ (at + 1) kids (pre ++ workBytes (recordOf n (count kids))) rest replacement r (substituteInChildren ctx (s .name .0) replacement (plan ctx (s .name .0) replacement (shape n) n kids) kids)
+    × (r .looks ≡ looksInChildren ctx (s .name .0) replacement (plan ctx (s .name .0) replacement (shape n) n kids) kids)
+
+-- no target ends the search of the node at a place
+abbrev pub Steady : Context → Sought → List ℕ → ℕ → Type 0
+Steady ctx s table at =
+    (replacement : Tree) → Describes s replacement → (pre : List ℕ) (n : Node) (kids : Trees) (rest : List ℕ) → TreeAt table at (node n kids) pre rest
+    → false ≡ stopsIn ctx replacement (shape n) kids
 
 -- leaves from number `at` to number `end`, with their effect and their looks
 pub data Leaves (table : List ℕ) (at : ℕ) : ℕ → Bool → ℕ → Type 0 where
@@ -62,60 +115,63 @@ pub data Leaves (table : List ℕ) (at : ℕ) : ℕ → Bool → ℕ → Type 0 
   one-more : {next end : ℕ} {effect : Bool} {looks : ℕ} → end ≡ next + 1 → isLeaf (nodeAt table (16 * next)) ≡ true → Leaves table at next effect looks
       → Leaves table at end (effect || hasEffect (nodeOf (nodeAt table (16 * next)))) (looks + ownLooks (nodeOf (nodeAt table (16 * next))))
 
--- the plan of the link at a place
-abbrev pub planAt : List ℕ → Sought → ℕ → Plan
-planAt table s at = linkPlan s (shape (nodeOf (nodeAt table (16 * at))))
+-- the plan of the node at a place, from the child at another on, where leaves stand before that
+abbrev pub planAt : List ℕ → Sought → ℕ → ℕ → Plan
+planAt table s at child = planBehind (linkPlan s (shape (nodeOf (nodeAt table (16 * at))))) (child - (at + 1))
 
--- A child of the link at `at`: the leaves before it are passed, and it is the first of the `left` children that are left.
+-- A child of the node at `at`: the leaves before it are passed, and it is the first of the `left` children that are left.
 pub record Reaches (ctx : Context) (s : Sought) (table : List ℕ) (at child left : ℕ) (effect : Bool) (looks : ℕ) : Type 0 where
   pub here : Searchable table at
-  pub link : IsLink (nodeAt table (16 * at)) s
+  pub children : nodeAt table (16 * at) .children ≡ 0 → ⊥
+  pub other : is 4 (nodeOf (nodeAt table (16 * at))) ≡ false
+  pub kept : cleared (nodeOf (nodeAt table (16 * at))) .flags ≡ nodeAt table (16 * at) .flags
+  pub steady : Steady ctx s table at
   pub later : at < child
   pub leaves : Leaves table (at + 1) child effect looks
   pub some : left ≡ 0 → ⊥
   pub many : left + child ≡ nodeAt table (16 * at) .children + at + 1
-  pub goes : Goes ctx s table (at + 1) (nodeAt table (16 * at) .children) (planAt table s at) table child left (planAt table s at) effect looks
+  pub enters : isNothing (planAt table s at child) ≡ false
+  pub goes : Goes ctx s (OfChildren ctx s table at) (at + 1) table child left (planAt table s at child) effect looks
 
-abbrev pub SomeReaches : Context → Sought → List ℕ → ℕ → ℕ → Type 0
-SomeReaches ctx s table at child = (left : ℕ) × (effect : Bool) × (looks : ℕ) × Reaches ctx s table at child left effect looks
+-- the first child that is searched stands so far behind the node at `at`
+abbrev pub EntersAt : Context → Sought → List ℕ → ℕ → ℕ → Type 0
+EntersAt ctx s table at far = Reaches ctx s table at (at + far) (nodeAt table (16 * at) .children + 1 - far) false 0
 
--- such a child, or the link itself
-abbrev pub Enters : Context → Sought → List ℕ → ℕ → ℕ → Type 0
-Enters ctx s table at r = (r ≡ at → ⊥) → SomeReaches ctx s table at r
+-- such nodes from number `at` to number `end`, each a child of the one before, behind leaves, with the looks on the way
+pub data Links (ctx : Context) (s : Sought) (table : List ℕ) (at : ℕ) : ℕ → ℕ → Type 0 where
+  start : {end : ℕ} → end ≡ at → Links ctx s table at end 0
+  link : {next end left looks seen : ℕ} {effect : Bool} → Reaches ctx s table next end left effect looks → Links ctx s table at next seen
+      → Links ctx s table at end (seen + (ownLooks (nodeOf (nodeAt table (16 * next))) + looks))
 
--- such nodes from number `at` to number `end`, each a child of the one before, behind leaves
-pub data Links (ctx : Context) (s : Sought) (table : List ℕ) (at : ℕ) : ℕ → Type 0 where
-  start : {end : ℕ} → end ≡ at → Links ctx s table at end
-  link : {next end : ℕ} → SomeReaches ctx s table next end → Links ctx s table at next → Links ctx s table at end
+-- the way down from `at`: the node that it has come to, and the looks on it
+pub record LinksTo (ctx : Context) (s : Sought) (table : List ℕ) (at end looks : ℕ) : Type 0 where
+  pub links : Links ctx s table at end looks
+  pub here : Searchable table end
 
-abbrev pub LinksTo : Context → Sought → List ℕ → ℕ → ℕ → Type 0
-LinksTo ctx s table at end = (at ≤ end) × Links ctx s table at end × Searchable table end
+-- on it: the node `link` was gone through last, and `left` of its children are left; at first, there is none
+pub data Going (ctx : Context) (s : Sought) (table : List ℕ) (at next left : ℕ) (link : NodeRecord) : ℕ → Type 0 where
+  begun : next ≡ at → left ≡ 1 → Going ctx s table at next left link 0
+  through : {above looks seen : ℕ} {effect : Bool} → link ≡ nodeAt table (16 * above) → Reaches ctx s table above next left effect looks → Links ctx s table at above seen
+      → Going ctx s table at next left link (seen + (ownLooks (nodeOf (nodeAt table (16 * above))) + looks))
 
 -- a node before number `end` that is no leaf
 abbrev pub SomeNode : List ℕ → ℕ → Type 0
 SomeNode table end = (k : ℕ) × (k < end) × (isLeaf (nodeAt table (16 * k)) ≡ false)
 
--- the last of them, and the leaves behind it
+-- the last of them, with its own look, and the leaves behind it
 pub record LeavesBefore (table : List ℕ) (end : ℕ) (b : Before) : Type 0 where
   pub sooner : b .link .0 < end
   pub other : isLeaf (nodeAt table (16 * b .link .0)) ≡ false
   pub leaves : Leaves table (b .link .0 + 1) end (b .effect) (b .looks)
+  pub own : b .own ≡ ownLooks (nodeOf (nodeAt table (16 * b .link .0)))
 
--- The tree behind the links was searched, and so were the trees of those links that stand from `end` on.
-pub record Within (ctx : Context) (s : Sought) (table₀ table : List ℕ) (at end : ℕ) (w : Walked) : Type 0 where
-  pub later : at ≤ end
-  pub links : Links ctx s table₀ at end
+-- The tree behind the links was searched, and so were the trees of those links that stand from `end` on; `looks` are those
+-- on the way to it.
+pub record Within (ctx : Context) (s : Sought) (table₀ table : List ℕ) (at end looks : ℕ) (w : Walked) : Type 0 where
+  pub links : Links ctx s table₀ at end looks
   pub here : Searchable table₀ end
   pub did : Searches ctx s table₀ table end w
   pub same : length table ≡ length table₀
-
--- some search has done so
-abbrev pub SomeWithin : List ℕ → ℕ → ℕ → Walked → Type 0
-SomeWithin table at end w = (ctx : Context) × (s : Sought) × Known s × (table₀ : List ℕ) × Within ctx s table₀ table at end w
-
--- with the links above, where the name was found, the whole tree is searched
-abbrev pub ThroughLinks : List ℕ → List ℕ → ℕ → ℕ → Walked → Walked → Type 0
-ThroughLinks table table′ at end w r = (ctx : Context) (s : Sought) → Known s → (table₀ : List ℕ) → Within ctx s table₀ table at end w → Searches ctx s table₀ table′ at r
 
 -- The child of a link was searched behind its leaves, and the name was not found.
 pub record ChildSearched (ctx : Context) (s : Sought) (table₀ table : List ℕ) (b : Before) (child left : ℕ) (w : Walked) : Type 0 where

@@ -3,7 +3,7 @@ use Prim.Native.Nat.{ℕ, _+_, _*_}
 use mathlib.Core.Bool.{Bool, true, false, _&&_, _||_, not}
 use mathlib.Core.List.{List, _++_}
 use mathlib.Core.Path.{_≡_}
-use lib.Dec.{eqb, ltb}
+use lib.Dec.{eqb}
 use Rattle.records.specs.Record.{nodeAt}
 use Rattle.records.specs.Tree.{Node, Tree, Trees, node, none, more, count, recordOf, nodeOf}
 use Rattle.records.specs.declared.layout.NodeRecord.{NodeRecord}
@@ -44,9 +44,13 @@ OfPassed ctx r stops s effect a q = isPassed (a .answer) ≡ true → (table : L
 abbrev pub OfAnswered : List ℕ → List ℕ → ℕ → NodeRecord → Bool → Walked → Walked → Type 0
 OfAnswered table table′ at r effect a q = isPassed (a .answer) ≡ false → (ctx : Context) (stops : Bool) (s : Sought) → OfNode ctx table table′ at r stops s (behind effect a) q
 
--- a node without children, of a kind that never has any
+-- kinds that never have children
+abbrev pub leafKind : ℕ → Bool
+leafKind k = eqb k 0 || eqb k 1 || eqb k 2 || eqb k 3 || eqb k 4 || eqb k 5 || eqb k 27 || eqb k 29 || eqb k 30
+
+-- a node without children, of such a kind
 abbrev pub isLeaf : NodeRecord → Bool
-isLeaf n = eqb (n .children) 0 && (ltb (n .kind) 6 || eqb (n .kind) 27)
+isLeaf n = eqb (n .children) 0 && leafKind (n .kind)
 
 -- what the search did of such a node that is not the name
 abbrev pub OfLeaf : Context → ℕ → NodeRecord → Sought → Walked → Type 0
@@ -58,6 +62,12 @@ movesLeaf n s = (eqb (n .kind) 1 || eqb (n .kind) 2 || eqb (n .kind) 27) || reor
 
 abbrev pub passesName : Context → NodeRecord → Bool
 passesName ctx n = eqb (n .kind) 4 && not (unsettled ctx (n .label))
+
+-- a leaf that is passed and is not the name
+pub record PassedLeaf (ctx : Context) (s : Sought) (n : NodeRecord) : Type 0 where
+  pub bare : isLeaf n ≡ true
+  pub other : isSpecificId (s .name .0) (nodeOf n) ≡ false
+  pub passes : (movesLeaf n s || passesName ctx n) ≡ true
 
 -- a link that is passed where its children are, if it or one of them has this effect: no spread and no property
 abbrev pub movesLink : NodeRecord → Sought → Bool → Bool

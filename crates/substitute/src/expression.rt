@@ -13,7 +13,6 @@ ghost use Rattle.substitute.specs.Links.{SomeChildSearched, SearchesBehi
 use crate::descent::Before;
 use crate::descent::behind_links;
 use crate::descent::leaves_before;
-use crate::descent::of_links;
 use crate::leaf::is_leaf;
 use crate::leaf::leaf_effect;
 use crate::leaf::leaf_looks;
@@ -21,6 +20,7 @@ use crate::leaf::moves_leaf;
 use crate::leaf::of_leaf;
 use crate::links::is_link;
 use crate::links::link_plan;
+use crate::links::plan_behind;
 use crate::node::is_specific_id;
 use crate::node::moves_link;
 use crate::node::of_answered;
@@ -68,9 +68,11 @@ pub fn substitute_single_use_symbol_in_expression(
     requires { ⌜ Known s ⌝ }
     ensures { λ r. ⌜ Searches (contextOf (read (now (file .entry)))) s (now (nodes .entry)) (now (nodes .exit)) (at .0) r ⌝ }
 {
-    let inner = behind_links(file, h, nodes, at, s);
+    let d = behind_links(file, h, nodes, at, s);
+    let inner = d.node;
     let mut w = walk_node(file, h, nodes, inner, s);
     let mut i = inner.0;
+    let mut looks = d.looks;
     let answer = w.answer;
     let mut replaced = is_replaced(answer);
     while !replaced & (at.0 < i) {
@@ -78,10 +80,11 @@ pub fn substitute_single_use_symbol_in_expression(
         w = behind_child(file, h, nodes, b, NodeId(i), s, w);
         let link = b.link;
         i = link.0;
+        looks -= b.own + b.looks;
         let answer = w.answer;
         replaced = is_replaced(answer);
     }
-    of_links(nodes, at, NodeId(i), w)
+    gathered(false, looks, w)
 }
 
 // The search of a link, from that of its child `child`, where the name was not found; the leaves before that child are passed.
@@ -103,9 +106,15 @@ fn behind_child(
     let at = b.link;
     let n = work_node(nodes, at);
     let left = size(n.children) + at.0 - child.0;
+    let now = plan_behind(link_plan(n, s), child.0 - at.0 - 1);
     let answer = w.answer;
     let end = w.next;
     if !is_passed(answer) {
+        if is_branches(now) {
+            let others = walk_list(file, h, nodes, end, left, Plan::All, s);
+            let children = gathered(b.effect, b.looks, either(w, others));
+            return of_answered(nodes, at, n, false, children);
+        }
         let others = pass_row(nodes, end, left);
         let last = others.next;
         let children = gathered(b.effect, b.looks, stopped(last, w.looks));
@@ -114,7 +123,7 @@ fn behind_child(
     if left == 0 {
         return of_passed(file, h, n, false, s, false, gathered(b.effect, b.looks, w));
     }
-    let plan = next_plan(link_plan(n, s));
+    let plan = next_plan(now);
     let rest = walk_list(file, h, nodes, end, left, plan, s);
     let children = gathered(b.effect | w.effect, b.looks + w.looks, rest);
     let last = rest.answer;

@@ -9,7 +9,8 @@ ghost use Rattle.records.specs.File.{fileLength, read};
 ghost use Rattle.walk.specs.Context.{contextOf};
 ghost use Rattle.walk.specs.Effect.{hasEffect};
 ghost use Rattle.walk.specs.Looks.{ownLooks};
-ghost use Rattle.substitute.specs.OfNode.{isLeaf, movesLeaf, passesName, OfLeaf};
+ghost use Rattle.substitute.specs.OfNode.{isLeaf, movesLeaf, passesName, PassedLeaf, OfLeaf};
+use crate::node::is_specific_id;
 use crate::outcome::by_passing;
 use crate::outcome::passed;
 use plans::pass::can_reorder;
@@ -26,7 +27,16 @@ use reorder::unsettled::identifier_read_blocks_reorder;
 pub(crate) fn is_leaf(n: NodeRecord) -> bool
     ensures { λ r. ⌜ r ≡ isLeaf n ⌝ }
 {
-    (n.children == 0) & ((n.kind < 6) | (n.kind == 27))
+    (n.children == 0)
+        & ((n.kind == 0)
+            | (n.kind == 1)
+            | (n.kind == 2)
+            | (n.kind == 3)
+            | (n.kind == 4)
+            | (n.kind == 5)
+            | (n.kind == 27)
+            | (n.kind == 29)
+            | (n.kind == 30))
 }
 
 // Whether such a node has an effect, and the looks at it.
@@ -39,7 +49,7 @@ pub(crate) fn leaf_effect(n: NodeRecord) -> bool
 pub(crate) fn leaf_looks(n: NodeRecord) -> usize
     ensures { λ r. ⌜ (isLeaf n ≡ true → r ≡ ownLooks (nodeOf n)) × (r ≤ 1) ⌝ }
 {
-    one(!(n.kind == 27))
+    one(n.kind < 6)
 }
 
 // Such a node that is passed whatever its name is: a constant, or one that may change places with the tree to place.
@@ -60,6 +70,27 @@ pub(crate) fn passes_name(file: &[u8], h: Header, n: NodeRecord) -> bool
         return !identifier_read_blocks_reorder(file, h, NameId(n.label));
     }
     false
+}
+
+// Such a node that is passed and is not the name.
+pub(crate) fn passes_leaf(file: &[u8], h: Header, n: NodeRecord, s: Sought) -> bool
+    requires { ⌜ h ≡ headerOf (now file) ⌝ }
+    requires { ⌜ length (now file) ≡ fileLength h ⌝ }
+    ensures { λ r. ⌜ (r ≡ true → PassedLeaf (contextOf (read (now (file .entry)))) s n) ⌝ }
+{
+    if !is_leaf(n) {
+        return false;
+    }
+    if is_specific_id(n, s) {
+        return false;
+    }
+    if s.literal {
+        return true;
+    }
+    if moves_leaf(n, s) {
+        return true;
+    }
+    passes_name(file, h, n)
 }
 
 // Such a node, if it is not the name.

@@ -3,44 +3,47 @@ ghost use mathlib.Core.Bool.{true, cond};
 ghost use mathlib.Core.Path.{_≡_};
 ghost use Rattle.records.specs.Tree.{nodeOf};
 ghost use Rattle.walk.specs.Shape.{shape};
-ghost use Rattle.plans.specs.declared.plan.Plan.the-variants.{All, First};
-ghost use Rattle.substitute.specs.Links.{linkPlan, IsLink};
+ghost use Rattle.plans.specs.declared.plan.Plan.the-variants.{First};
+ghost use Rattle.substitute.specs.Links.{linkPlan, linkKind, planBehind, onward, IsLink};
 use plans::plan::Plan;
 use plans::shape::Shape;
 use plans::shape::shape_of;
 use plans::sought::Sought;
 use records::layout::NodeRecord;
+use records::number::wide;
+use records::number::wide16;
 
-// A node with children, the first of which is searched first; its rule says nothing else of them.
+// The kinds whose children are searched from the first on, whatever they are, as the bits of a number.
+const LINKS: u32 = 0x12EF3DC0;
+
+fn is_link_kind(kind: u8) -> bool
+    ensures { λ r. ⌜ (r ≡ true → linkKind kind ≡ true) ⌝ }
+{
+    if kind < 32 {
+        return (LINKS >> wide16(wide(kind))) % 2 == 1;
+    }
+    false
+}
+
+// A node with children, the first of which is searched first; its rule says nothing else of them. It is no shorthand, so that
+// it stays as it is where the name is found in it.
 pub(crate) fn is_link(n: NodeRecord, s: Sought) -> bool
     ensures { λ r. ⌜ (r ≡ true → IsLink n s) ⌝ }
 {
-    let kind = n.kind;
     if n.children == 0 {
         return false;
     }
+    if is_link_kind(n.kind) {
+        return true;
+    }
+    let kind = n.kind;
+    let string_key = (n.flags / 32 % 2 == 1) & (n.flags / 64 % 2 == 1);
     match kind {
-        6 => true,
-        7 => true,
-        8 => true,
         9 => !(n.label == 1),
-        10 => true,
-        11 => true,
-        12 => true,
-        13 => true,
         14 => !s.member_or_chain,
         15 => !s.member_or_chain,
-        16 => true,
-        17 => true,
-        18 => true,
-        19 => true,
-        21 => true,
-        22 => true,
-        23 => true,
         24 => !s.member_tag,
-        25 => true,
-        26 => !((n.flags / 32 % 2 == 1) & (n.flags / 64 % 2 == 1)),
-        28 => true,
+        26 => !string_key & !(n.flags / 16 % 2 == 1),
         _ => false,
     }
 }
@@ -80,10 +83,37 @@ pub(crate) fn link_plan(n: NodeRecord, s: Sought) -> Plan
     }
 }
 
-// A kind whose children are searched each, until one gives an answer.
-pub(crate) fn enters_all(n: NodeRecord, s: Sought) -> bool
-    ensures { λ r. ⌜ (r ≡ true → linkPlan s (shape (nodeOf n)) ≡ All) ⌝ }
+// The plan for the children behind so many.
+pub(crate) fn plan_behind(p: Plan, many: usize) -> Plan
+    ensures { λ r. ⌜ r ≡ planBehind p many ⌝ }
 {
-    let choice = (n.kind == 17) | (n.flags / 2 % 2 == 1);
-    !((n.kind == 19) | (n.kind == 25) | (n.kind == 26)) & !(s.effect & choice)
+    if many == 0 {
+        return p;
+    }
+    match p {
+        Plan::All => Plan::All,
+        Plan::First => Plan::Nothing,
+        Plan::Nothing => Plan::Nothing,
+        Plan::Test => {
+            if many == 1 {
+                return Plan::Branches;
+            }
+            Plan::All
+        },
+        Plan::Branches => Plan::All,
+    }
+}
+
+// A node with few children that are searched each, until one gives an answer. More are passed as fast by the list.
+pub(crate) fn enters_all(n: NodeRecord, s: Sought) -> bool
+    ensures { λ r. ⌜ (r ≡ true → onward (linkPlan s (shape (nodeOf n))) ≡ true) ⌝ }
+{
+    let choice = (n.kind == 17) | (n.kind == 19) | (n.flags / 2 % 2 == 1);
+    if 3 < n.children {
+        return false;
+    }
+    if s.effect & choice {
+        return false;
+    }
+    !((n.kind == 25) | (n.kind == 26))
 }

@@ -28,8 +28,10 @@ use table::set_flags;
 pub(crate) fn own_looks(n: NodeRecord) -> usize
     ensures { λ r. ⌜ (r ≡ ownLooks (nodeOf n)) × (r ≤ 1) ⌝ }
 {
-    let key = (n.kind == 26) & (n.flags / 32 % 2 == 1) & (n.flags / 64 % 2 == 1);
-    one((n.kind < 25) | (n.kind == 28) | key)
+    if n.kind == 26 {
+        return one((n.flags / 32 % 2 == 1) & (n.flags / 64 % 2 == 1));
+    }
+    one((n.kind < 25) | (n.kind == 28))
 }
 
 // The flags of a node whose child gave an answer: a shorthand is one no longer.

@@ -1,53 +1,100 @@
 use native.Mathlib.Omega.{arith}
-use Prim.Native.Nat.{_-_, _*_}
-use mathlib.Core.Path.{_≡_, refl}
+use Prim.Native.Nat.{ℕ, _+_, _-_, _*_, _<_}
+use mathlib.Core.Bool.{true, false}
+use mathlib.Core.Logic.{⊎-elim}
+use mathlib.Core.Path.{_≡_, refl, sym, ap, _∙_}
+use borrow.Author.Tests.{not-false}
 use lib.ListN.{length}
 use Rattle.records.specs.Record.{nodeAt}
 use Rattle.records.specs.File.{read}
 use Rattle.walk.specs.Context.{contextOf}
-use Rattle.substitute.specs.Links.{LinksTo, start, link}
+use Rattle.plans.specs.Search.{Searchable}
+use Rattle.substitute.specs.Links.{Going, begun}
 use Rattle.substitute.proofs.Searching.{searchable-room}
-use Rattle.substitute.proofs.Reaching.{child-here, child-room}
+use Rattle.substitute.proofs.Reaching.{going-links, going-seen, going-on, going-down, going-as}
 use Rattle.substitute.proofs.descent.behind_links.Statement.{statement}
 use Rattle.substitute.proofs.descent.behind_links.Tie as tie
 use Rattle.substitute.proofs.descent.behind_links.Reads as reads
 use Rattle.substitute.proofs.descent.behind_links.Lts as lts
-use Rattle.substitute.proofs.descent.entered.Reads as entered-reads
-use Rattle.substitute.proofs.links.is_link.Reads as is-link-reads
+use Rattle.records.proofs.number.size.Reads as size-reads
+use Rattle.substitute.proofs.descent.distance.Reads as distance-reads
+use Rattle.substitute.proofs.leaf.leaf_looks.Reads as leaf-looks-reads
+use Rattle.substitute.proofs.leaf.passes_leaf.Reads as passes-leaf-reads
+use Rattle.substitute.proofs.links.enters_all.Reads as enters-all-reads
+use Rattle.substitute.proofs.node.own_looks.Reads as own-looks-reads
 use Rattle.table.proofs.work_node.Reads as work-node-reads
 
 abbrev Inv-loop : tie.InvT-loop
-Inv-loop file h nodes s next₀ n₀ next n = (n ≡ nodeAt nodes (16 * next .0)) × LinksTo (contextOf (read file)) s nodes (next₀ .0) (next .0)
+Inv-loop file h nodes s next₀ left₀ looks₀ n₀ link₀ next left looks n link = (n ≡ nodeAt nodes (16 * next)) × (Searchable nodes next × Going (contextOf (read file)) s nodes next₀ next left link looks)
 
 abbrev μ-loop : tie.MeasureT-loop
-μ-loop file h nodes s next₀ n₀ next n = length nodes - 16 * next .0
+μ-loop file h nodes s next₀ left₀ looks₀ n₀ link₀ next left looks n link = length nodes - 16 * next
 
 work-node-requires : tie.Need-work-node-requires Inv-loop μ-loop
 work-node-requires c κs = searchable-room ((c .before .before) .pre .1 .1 .0)
 
 loop-holds : tie.Need-loop-holds Inv-loop μ-loop
-loop-holds c = ((c .work-node) .ensures, (omega arith, start refl, (c .before .before .before) .pre .1 .1 .0))
+loop-holds c = ((c .work-node) .ensures, ((c .before .before .before) .pre .1 .1 .0, begun refl refl))
 
-is-link-requires : tie.Need-is-link-requires Inv-loop μ-loop
-is-link-requires c κs = tt
+enters-all-requires : tie.Need-enters-all-requires Inv-loop μ-loop
+enters-all-requires c κs = tt
 
-entered-requires : tie.Need-entered-requires Inv-loop μ-loop
-entered-requires c κs = ((c .before .before .before .before .before .before) .pre .0, ((c .before .before .before .before .before .before) .pre .1 .0, ((c .before .before .loop) .inv .1 .2, ((c .before .before .before .before .before .before) .pre .1 .1 .1, ((c .before .before .loop) .inv .0, (c .before .is-link) .ensures ((c .if1) .taken))))))
+passes-leaf-requires : tie.Need-passes-leaf-requires Inv-loop μ-loop
+passes-leaf-requires c κs = ((c .before .before .before .before .before .before .before .before .before) .pre .0, (c .before .before .before .before .before .before .before .before .before) .pre .1 .0)
+
+leaf-looks-requires : tie.Need-leaf-looks-requires Inv-loop μ-loop
+leaf-looks-requires c κs = tt
+
+add-looks : tie.Need-add-looks Inv-loop μ-loop
+add-looks c = omega (arith, (c .leaf-looks) .ensures .1, searchable-room ((c .before .before .before .before .before .before .before .before .loop) .inv .1 .0), going-seen (contextOf (read ((c .before .before .before .before .before .before .before .before .before .before .before .before) .args .file .now))) ((c .before .before .before .before .before .before .before .before .before .before .before .before) .args .s) ((c .before .before .before .before .before .before .before .before .loop) .inv .1 .1))
+
+add-next : tie.Need-add-next Inv-loop μ-loop
+add-next c = omega (arith, searchable-room ((c .before .before .before .before .before .before .before .before .loop) .inv .1 .0))
+
+sub-left : tie.Need-sub-left Inv-loop μ-loop
+sub-left c = omega (arith, (c .before .before .before .before .before .if2) .left)
+
+distance-requires : tie.Need-distance-requires Inv-loop μ-loop
+distance-requires c κs = ((c .before .before .loop) .inv .1 .0, (c .before .before .loop) .inv .0)
+
+own-looks-requires : tie.Need-own-looks-requires Inv-loop μ-loop
+own-looks-requires c κs = tt
+
+add-looks-2 : tie.Need-add-looks-2 Inv-loop μ-loop
+add-looks-2 c = omega (arith, (c .own-looks) .ensures .1, searchable-room ((c .before .before .before .before .before .loop) .inv .1 .0), going-seen (contextOf (read ((c .before .before .before .before .before .before .before .before .before) .args .file .now))) ((c .before .before .before .before .before .before .before .before .before) .args .s) ((c .before .before .before .before .before .loop) .inv .1 .1))
+
+add-next-2 : tie.Need-add-next-2 Inv-loop μ-loop
+add-next-2 c = let x = (c .before .before .distance) .ensures ((c .before .if5) .left) (contextOf (read ((c .before .before .before .before .before .before .before .before .before) .args .file .now))) ((c .before .before .before .before .before .before .before .before .before) .pre .1 .1 .1) in omega (arith, searchable-room (going-down (contextOf (read ((c .before .before .before .before .before .before .before .before .before) .args .file .now))) ((c .before .before .before .before .before .before .before .before .before) .args .s) ((c .before .before .before .before .before .loop) .inv .1 .1) ((c .before .before .before .before .before .loop) .n) ((c .before .before .before .before .before .loop) .inv .0) ((c .before .before .distance) .result) x ((c .own-looks) .result) ((c .own-looks) .ensures .0) ((c .before .before .before .before .before .loop) .n .children) refl .0))
+
+size-requires : tie.Need-size-requires Inv-loop μ-loop
+size-requires c κs = tt
+
+add-left : tie.Need-add-left Inv-loop μ-loop
+add-left c = omega (arith, (c .size) .ensures .0, (c .size) .ensures .1)
+
+sub-left-2 : tie.Need-sub-left-2 Inv-loop μ-loop
+sub-left-2 c = let x = (c .before .before .before .distance) .ensures ((c .before .before .if5) .left) (contextOf (read ((c .before .before .before .before .before .before .before .before .before .before) .args .file .now))) ((c .before .before .before .before .before .before .before .before .before .before) .pre .1 .1 .1) in omega (arith, x .some, (c .size) .ensures .0, ap (λ y. y .children) ((c .before .before .before .before .before .before .loop) .inv .0))
 
 work-node-requires-2 : tie.Need-work-node-requires-2 Inv-loop μ-loop
-work-node-requires-2 c κs = child-room (contextOf (read ((c .before .before .before .before .before .before .before .before .before .before) .args .file .now))) ((c .before .before .before .before .before .before .before .before .before .before) .args .s) ((c .before .before .before .entered) .ensures ((c .if2) .left) .3)
+work-node-requires-2 c κs = let ctx = contextOf (read ((c .before .before .before .before .before .before) .args .file .now)) in let s = (c .before .before .before .before .before .before) .args .s in let t = (c .before .before .before .before .before .before) .args .nodes .now in let g = ⊎-elim (λ x. going-as ctx s t ((c .before .before .before .before .before .before) .args .at .0) (x .7) (x .8) (x .9) (x .10) (going-on ctx s ((c .before .before .before .before .before .before) .pre .1 .1 .1) ((c .before .before .loop) .inv .1 .1) ((c .before .before .loop) .n) ((c .before .before .loop) .inv .0) (x .1 .left) (x .2 .ensures (not-false (x .2 .result) (x .3 .left))) (x .4 .ensures (not-false (x .4 .result) (x .5 .left))) (x .6 .result) (x .6 .ensures .0 ((x .4 .ensures (not-false (x .4 .result) (x .5 .left))) .bare)))) (λ y. going-as ctx s t ((c .before .before .before .before .before .before) .args .at .0) (y .5) (y .6) (y .7) (y .8) (going-down ctx s ((c .before .before .loop) .inv .1 .1) ((c .before .before .loop) .n) ((c .before .before .loop) .inv .0) (y .1 .result) (y .1 .ensures (y .2 .left) ctx ((c .before .before .before .before .before .before) .pre .1 .1 .1)) (y .3 .result) (y .3 .ensures .0) (y .4 .result) (y .4 .ensures .0))) ((c .if1) .came) in searchable-room (g .0)
 
 loop-less : tie.Need-loop-less Inv-loop μ-loop
-loop-less c = omega (arith, child-room (contextOf (read ((c .before .before .before .before .before .before .before .before .before .before .before) .args .file .now))) ((c .before .before .before .before .before .before .before .before .before .before .before) .args .s) ((c .before .before .before .before .entered) .ensures ((c .before .if2) .left) .3), (c .before .before .before .before .entered) .ensures ((c .before .if2) .left) .3 .later)
+loop-less c = let far : (c .before .before .before .loop) .next < (c .before .if1) .next = ⊎-elim (λ x. omega (arith, x .7)) (λ y. omega (arith, y .5, y .2 .left)) ((c .before .if1) .came) in omega (arith, far, searchable-room ((c .before .before .before .loop) .inv .1 .0))
 
 loop-again : tie.Need-loop-again Inv-loop μ-loop
-loop-again c = let e = (c .before .before .before .before .entered) .ensures ((c .before .if2) .left) in ((c .work-node2) .ensures, (omega (arith, (c .before .before .before .before .before .before .before .loop) .inv .1 .0, e .3 .later), link e ((c .before .before .before .before .before .before .before .loop) .inv .1 .1), child-here (contextOf (read ((c .before .before .before .before .before .before .before .before .before .before .before) .args .file .now))) ((c .before .before .before .before .before .before .before .before .before .before .before) .args .s) (e .3)))
+loop-again c = let ctx = contextOf (read ((c .before .before .before .before .before .before .before) .args .file .now)) in let s = (c .before .before .before .before .before .before .before) .args .s in let t = (c .before .before .before .before .before .before .before) .args .nodes .now in ((c .work-node2) .ensures, ⊎-elim (λ x. going-as ctx s t ((c .before .before .before .before .before .before .before) .args .at .0) (x .7) (x .8) (x .9) (x .10) (going-on ctx s ((c .before .before .before .before .before .before .before) .pre .1 .1 .1) ((c .before .before .before .loop) .inv .1 .1) ((c .before .before .before .loop) .n) ((c .before .before .before .loop) .inv .0) (x .1 .left) (x .2 .ensures (not-false (x .2 .result) (x .3 .left))) (x .4 .ensures (not-false (x .4 .result) (x .5 .left))) (x .6 .result) (x .6 .ensures .0 ((x .4 .ensures (not-false (x .4 .result) (x .5 .left))) .bare)))) (λ y. going-as ctx s t ((c .before .before .before .before .before .before .before) .args .at .0) (y .5) (y .6) (y .7) (y .8) (going-down ctx s ((c .before .before .before .loop) .inv .1 .1) ((c .before .before .before .loop) .n) ((c .before .before .before .loop) .inv .0) (y .1 .result) (y .1 .ensures (y .2 .left) ctx ((c .before .before .before .before .before .before .before) .pre .1 .1 .1)) (y .3 .result) (y .3 .ensures .0) (y .4 .result) (y .4 .ensures .0))) ((c .before .if1) .came))
 
 returns : tie.Need-returns Inv-loop μ-loop
-returns c = (c .before .before .loop) .inv .1
+returns c = record { links = going-links (contextOf (read ((c .before .before .before .before .before .before .before) .args .file .now))) ((c .before .before .before .before .before .before .before) .args .s) ((c .before .before .before .loop) .inv .1 .1); here = (c .before .before .before .loop) .inv .1 .0 }
 
 returns-2 : tie.Need-returns-2 Inv-loop μ-loop
-returns-2 c = (c .before .before .before .before .before .before .loop) .inv .1
+returns-2 c = record { links = going-links (contextOf (read ((c .before .before .before .before .before .before .before .before .before) .args .file .now))) ((c .before .before .before .before .before .before .before .before .before) .args .s) ((c .before .before .before .before .before .loop) .inv .1 .1); here = (c .before .before .before .before .before .loop) .inv .1 .0 }
+
+returns-3 : tie.Need-returns-3 Inv-loop μ-loop
+returns-3 c = record { links = going-links (contextOf (read ((c .before .before .before .before .before .before .before .before .before .before .before) .args .file .now))) ((c .before .before .before .before .before .before .before .before .before .before .before) .args .s) ((c .before .before .before .before .before .before .before .loop) .inv .1 .1); here = (c .before .before .before .before .before .before .before .loop) .inv .1 .0 }
+
+returns-4 : tie.Need-returns-4 Inv-loop μ-loop
+returns-4 c = record { links = going-links (contextOf (read ((c .before .before .before .before .before .before .before .before) .args .file .now))) ((c .before .before .before .before .before .before .before .before) .args .s) ((c .before .before .before .before .loop) .inv .1 .1); here = (c .before .before .before .before .loop) .inv .1 .0 }
 
 pub behind-links-spec : {M : Type 1} → statement M
 behind-links-spec =
@@ -57,10 +104,23 @@ behind-links-spec =
     μ-loop
     work-node-requires
     loop-holds
-    is-link-requires
-    entered-requires
+    enters-all-requires
+    passes-leaf-requires
+    leaf-looks-requires
+    add-looks
+    add-next
+    sub-left
+    distance-requires
+    own-looks-requires
+    add-looks-2
+    add-next-2
+    size-requires
+    add-left
+    sub-left-2
     work-node-requires-2
     loop-less
     loop-again
     returns
-    returns-2)
+    returns-2
+    returns-3
+    returns-4)

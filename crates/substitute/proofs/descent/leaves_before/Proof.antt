@@ -1,7 +1,9 @@
 use native.Mathlib.Omega.{arith}
 use Prim.Native.Nat.{ℕ, _+_, _*_, _-_, _≤_}
 use mathlib.Core.Bool.{Bool, false, _||_}
-use mathlib.Core.Path.{_≡_, sym, _∙_, subst}
+use mathlib.Core.Path.{_≡_, sym, ap, _∙_, subst}
+use Rattle.records.specs.Tree.{nodeOf}
+use Rattle.walk.specs.Looks.{ownLooks}
 use lib.ListN.{length}
 use Rattle.records.specs.Record.{nodeAt}
 use Rattle.substitute.specs.OfNode.{isLeaf}
@@ -14,6 +16,7 @@ use Rattle.substitute.proofs.descent.leaves_before.Lts as lts
 use Rattle.substitute.proofs.leaf.is_leaf.Reads as is-leaf-reads
 use Rattle.substitute.proofs.leaf.leaf_effect.Reads as leaf-effect-reads
 use Rattle.substitute.proofs.leaf.leaf_looks.Reads as leaf-looks-reads
+use Rattle.substitute.proofs.node.own_looks.Reads as own-looks-reads
 use Rattle.table.proofs.work_node.Reads as work-node-reads
 
 abbrev Inv-loop : tie.InvT-loop
@@ -55,8 +58,11 @@ loop-less c = omega (arith, node-sooner ((c .before .before .before .before .bef
 loop-again : tie.Need-loop-again Inv-loop μ-loop
 loop-again c = let h = sym ((c .before .before .before .before .is-leaf) .ensures) ∙ (c .before .before .before .if1) .taken in let o = node-sooner ((c .before .before .before .before .before .before .before .before .before) .args .nodes .now) ((c .before .before .before .before .before .loop) .link) ((c .before .before .before .before .before .loop) .n) ((c .before .before .before .before .before .loop) .inv .0) h ((c .before .before .before .before .before .loop) .inv .3) in ((c .work-node2) .ensures, omega (arith, (c .before .before .leaf-looks) .ensures .1, (c .before .before .before .before .before .loop) .inv .1, o .1), (c .before .before .before .before .before .loop) .inv .2, subst (SomeNode ((c .before .before .before .before .before .before .before .before .before) .args .nodes .now)) (omega (arith, o .1)) o, leaves-back ((c .before .before .before .before .before .before .before .before .before) .args .nodes .now) ((c .before .before .before .before .before .loop) .link) _ ((c .before .before .before .before .before .loop) .looks) ((c .before .before .before .before .before .loop) .effect) ((c .before .before .before .before .before .loop) .n) ((c .before .before .before .before .before .loop) .inv .0) h ((c .before .leaf-effect) .result) ((c .before .leaf-effect) .ensures h) ((c .before .before .leaf-looks) .result) ((c .before .before .leaf-looks) .ensures .0 h) (omega (arith, o .1)) ((c .before .before .before .before .before .loop) .inv .4))
 
+own-looks-requires : tie.Need-own-looks-requires Inv-loop μ-loop
+own-looks-requires c κs = tt
+
 returns : tie.Need-returns Inv-loop μ-loop
-returns c = record { sooner = omega (arith, (c .before .before .loop) .inv .1, (c .before .before .before .before .before .before) .pre .1 .1); other = subst (λ n. isLeaf n ≡ false) ((c .before .before .loop) .inv .0) (sym ((c .before .is-leaf) .ensures) ∙ (c .if1) .left); leaves = leaves-all ((c .before .before .before .before .before .before) .args .nodes .now) ((c .before .before .loop) .link) _ ((c .before .before .before .before .before .before) .args .child .0) ((c .before .before .loop) .looks) ((c .before .before .loop) .effect) (omega (arith, (c .before .before .before .before .before .before) .pre .1 .1)) ((c .before .before .loop) .inv .4) }
+returns c = record { sooner = omega (arith, (c .before .before .before .loop) .inv .1, (c .before .before .before .before .before .before .before) .pre .1 .1); other = subst (λ n. isLeaf n ≡ false) ((c .before .before .before .loop) .inv .0) (sym ((c .before .before .is-leaf) .ensures) ∙ (c .before .if1) .left); leaves = leaves-all ((c .before .before .before .before .before .before .before) .args .nodes .now) ((c .before .before .before .loop) .link) _ ((c .before .before .before .before .before .before .before) .args .child .0) ((c .before .before .before .loop) .looks) ((c .before .before .before .loop) .effect) (omega (arith, (c .before .before .before .before .before .before .before) .pre .1 .1)) ((c .before .before .before .loop) .inv .4); own = (c .own-looks) .ensures .0 ∙ ap (λ n. ownLooks (nodeOf n)) ((c .before .before .before .loop) .inv .0) }
 
 pub leaves-before-spec : {M : Type 1} → statement M
 leaves-before-spec =
@@ -75,4 +81,5 @@ leaves-before-spec =
     work-node-requires-2
     loop-less
     loop-again
+    own-looks-requires
     returns)

@@ -17,18 +17,19 @@ use Rattle.effects.specs.Passes.{Passes}
 use Rattle.plans.specs.declared.walked.Walked.{Walked}
 use Rattle.plans.specs.Answers.{isPassed, isReplaced, byPassing}
 use Rattle.plans.specs.Shapes.{planned}
-use Rattle.plans.specs.Search.{SearchableRow}
+use Rattle.plans.specs.Search.{SearchableRow, Searches}
 use Rattle.plans.specs.declared.plan.Plan.the-variants.{All}
+use Rattle.substitute.proofs.Either.{either-open}
 use Rattle.substitute.proofs.Row.{row-none, row-nothing, row-replaced, row-either, row-stopped}
 use Rattle.substitute.proofs.Searching.{searchable-stands, searchable-room, row-stands, first-searchable, here-found, tag-here}
 use Rattle.substitute.proofs.Nodes.{is-one-of, one-searched, node-searched, begun-row, others-searchable, row-room, row-looks-most, looks-in-room}
-use Rattle.substitute.specs.Links.{linkPlan, Goes, Within}
+use Rattle.substitute.specs.Links.{linkPlan, planBehind, Goes, OfRow, Within}
 use Rattle.substitute.specs.OfNode.{behind, movesLeaf, passesName}
-use Rattle.substitute.proofs.Chain.{plan-enters, link-searched, behind-room, behind-row, behind-seen, behind-looks, behind-left, same-left, row-ended, row-last, row-all, child-behind, within-room, within-node, before-room, before-later, within-link, within-child, ended}
+use Rattle.substitute.proofs.Chain.{plan-enters, children-row, link-searched, links-seen, behind-room, behind-row, behind-seen, behind-looks, behind-left, same-left, plan-was, row-ended, row-branches, row-last, row-all, child-behind, within-looks, within-room, within-node, before-room, before-later, before-looks, within-link, within-child, within-all}
 use Rattle.substitute.proofs.Leaves.{or-first, leaf-by}
-use Rattle.substitute.proofs.Reaching.{reaches-first, child-room}
 use Rattle.substitute.proofs.Moving.{link-moved}
 use Rattle.substitute.proofs.Going.{goes-start, goes-on, goes-to}
+use Prim.Native.Nat.{ℕ, _<_}
 use borrow.Fn.Kinds.{In}
 use borrow.Fn.PlainCycle.{Measures, is, falls, and}
 use Rattle.substitute.proofs.expression.behind_child.Reads as behind-child
@@ -57,7 +58,6 @@ use Rattle.plans.proofs.walked.is_replaced.Reads as is-replaced-reads
 use Rattle.records.proofs.number.size.Reads as size-reads
 use Rattle.substitute.proofs.descent.behind_links.Reads as behind-links-reads
 use Rattle.substitute.proofs.descent.leaves_before.Reads as leaves-before-reads
-use Rattle.substitute.proofs.descent.of_links.Reads as of-links-reads
 use Rattle.substitute.proofs.expression.is_one.Reads as is-one-reads
 use Rattle.substitute.proofs.leaf.is_leaf.Reads as is-leaf-reads
 use Rattle.substitute.proofs.leaf.leaf_effect.Reads as leaf-effect-reads
@@ -66,6 +66,7 @@ use Rattle.substitute.proofs.leaf.moves_leaf.Reads as moves-leaf-reads
 use Rattle.substitute.proofs.leaf.of_leaf.Reads as of-leaf-reads
 use Rattle.substitute.proofs.links.is_link.Reads as is-link-reads
 use Rattle.substitute.proofs.links.link_plan.Reads as link-plan-reads
+use Rattle.substitute.proofs.links.plan_behind.Reads as plan-behind-reads
 use Rattle.substitute.proofs.node.is_specific_id.Reads as is-specific-id-reads
 use Rattle.substitute.proofs.node.moves_link.Reads as moves-link-reads
 use Rattle.substitute.proofs.node.of_answered.Reads as of-answered-reads
@@ -160,97 +161,127 @@ abbrev walk-node-below : ℕ → In 2 walk-node-kinds.ps
 walk-node-below t =
     and 2 walk-node-kinds.ps (falls 2 walk-node-kinds.ps _<_ μ-walk-node t) walk-node.Pre
 
-behind-child-work-node-requires : (t : ℕ) → behind-child-lts.Need-work-node-requires (work-node-reads.Asked, work-node-reads.Learnt, size-reads.Asked, size-reads.Learnt, is-passed-reads.Asked, is-passed-reads.Learnt, pass-row-reads.Asked, pass-row-reads.Learnt, stopped-reads.Asked, stopped-reads.Learnt, gathered-reads.Asked, gathered-reads.Learnt, of-answered-reads.Asked, of-answered-reads.Learnt, of-passed-reads.Asked, of-passed-reads.Learnt, link-plan-reads.Asked, link-plan-reads.Learnt, next-plan-reads.Asked, next-plan-reads.Learnt, walk-list-below t, walk-list.Post) (behind-child-at t) behind-child.Post
+behind-child-work-node-requires : (t : ℕ) → behind-child-lts.Need-work-node-requires (work-node-reads.Asked, work-node-reads.Learnt, size-reads.Asked, size-reads.Learnt, link-plan-reads.Asked, link-plan-reads.Learnt, plan-behind-reads.Asked, plan-behind-reads.Learnt, is-passed-reads.Asked, is-passed-reads.Learnt, is-branches-reads.Asked, is-branches-reads.Learnt, walk-list-below t, walk-list.Post, either-reads.Asked, either-reads.Learnt, gathered-reads.Asked, gathered-reads.Learnt, of-answered-reads.Asked, of-answered-reads.Learnt, pass-row-reads.Asked, pass-row-reads.Learnt, stopped-reads.Asked, stopped-reads.Learnt, of-passed-reads.Asked, of-passed-reads.Learnt, next-plan-reads.Asked, next-plan-reads.Learnt) (behind-child-at t) behind-child.Post
 behind-child-work-node-requires t c κs = behind-room (contextOf (read ((c .before .before .before .before) .args .file .now))) ((c .before .before .before .before) .args .s) ((c .before .before .before .before) .pre .1 .1 .1 .0) ((c .before .before .before .before) .pre .1 .1 .1 .1 .2)
 
-behind-child-size-requires : (t : ℕ) → behind-child-lts.Need-size-requires (work-node-reads.Asked, work-node-reads.Learnt, size-reads.Asked, size-reads.Learnt, is-passed-reads.Asked, is-passed-reads.Learnt, pass-row-reads.Asked, pass-row-reads.Learnt, stopped-reads.Asked, stopped-reads.Learnt, gathered-reads.Asked, gathered-reads.Learnt, of-answered-reads.Asked, of-answered-reads.Learnt, of-passed-reads.Asked, of-passed-reads.Learnt, link-plan-reads.Asked, link-plan-reads.Learnt, next-plan-reads.Asked, next-plan-reads.Learnt, walk-list-below t, walk-list.Post) (behind-child-at t) behind-child.Post
+behind-child-size-requires : (t : ℕ) → behind-child-lts.Need-size-requires (work-node-reads.Asked, work-node-reads.Learnt, size-reads.Asked, size-reads.Learnt, link-plan-reads.Asked, link-plan-reads.Learnt, plan-behind-reads.Asked, plan-behind-reads.Learnt, is-passed-reads.Asked, is-passed-reads.Learnt, is-branches-reads.Asked, is-branches-reads.Learnt, walk-list-below t, walk-list.Post, either-reads.Asked, either-reads.Learnt, gathered-reads.Asked, gathered-reads.Learnt, of-answered-reads.Asked, of-answered-reads.Learnt, pass-row-reads.Asked, pass-row-reads.Learnt, stopped-reads.Asked, stopped-reads.Learnt, of-passed-reads.Asked, of-passed-reads.Learnt, next-plan-reads.Asked, next-plan-reads.Learnt) (behind-child-at t) behind-child.Post
 behind-child-size-requires t c κs = tt
 
-behind-child-add-left : (t : ℕ) → behind-child-lts.Need-add-left (work-node-reads.Asked, work-node-reads.Learnt, size-reads.Asked, size-reads.Learnt, is-passed-reads.Asked, is-passed-reads.Learnt, pass-row-reads.Asked, pass-row-reads.Learnt, stopped-reads.Asked, stopped-reads.Learnt, gathered-reads.Asked, gathered-reads.Learnt, of-answered-reads.Asked, of-answered-reads.Learnt, of-passed-reads.Asked, of-passed-reads.Learnt, link-plan-reads.Asked, link-plan-reads.Learnt, next-plan-reads.Asked, next-plan-reads.Learnt, walk-list-below t, walk-list.Post) (behind-child-at t) behind-child.Post
+behind-child-add-left : (t : ℕ) → behind-child-lts.Need-add-left (work-node-reads.Asked, work-node-reads.Learnt, size-reads.Asked, size-reads.Learnt, link-plan-reads.Asked, link-plan-reads.Learnt, plan-behind-reads.Asked, plan-behind-reads.Learnt, is-passed-reads.Asked, is-passed-reads.Learnt, is-branches-reads.Asked, is-branches-reads.Learnt, walk-list-below t, walk-list.Post, either-reads.Asked, either-reads.Learnt, gathered-reads.Asked, gathered-reads.Learnt, of-answered-reads.Asked, of-answered-reads.Learnt, pass-row-reads.Asked, pass-row-reads.Learnt, stopped-reads.Asked, stopped-reads.Learnt, of-passed-reads.Asked, of-passed-reads.Learnt, next-plan-reads.Asked, next-plan-reads.Learnt) (behind-child-at t) behind-child.Post
 behind-child-add-left t c = omega (arith, (c .before .size) .ensures .0, (c .before .size) .ensures .1, behind-room (contextOf (read ((c .before .before .before .before .before .before .before) .args .file .now))) ((c .before .before .before .before .before .before .before) .args .s) ((c .before .before .before .before .before .before .before) .pre .1 .1 .1 .0) ((c .before .before .before .before .before .before .before) .pre .1 .1 .1 .1 .2), (c .before .before .before .before .before .before .before) .good .1 .1 .0)
 
-behind-child-sub-left : (t : ℕ) → behind-child-lts.Need-sub-left (work-node-reads.Asked, work-node-reads.Learnt, size-reads.Asked, size-reads.Learnt, is-passed-reads.Asked, is-passed-reads.Learnt, pass-row-reads.Asked, pass-row-reads.Learnt, stopped-reads.Asked, stopped-reads.Learnt, gathered-reads.Asked, gathered-reads.Learnt, of-answered-reads.Asked, of-answered-reads.Learnt, of-passed-reads.Asked, of-passed-reads.Learnt, link-plan-reads.Asked, link-plan-reads.Learnt, next-plan-reads.Asked, next-plan-reads.Learnt, walk-list-below t, walk-list.Post) (behind-child-at t) behind-child.Post
+behind-child-sub-left : (t : ℕ) → behind-child-lts.Need-sub-left (work-node-reads.Asked, work-node-reads.Learnt, size-reads.Asked, size-reads.Learnt, link-plan-reads.Asked, link-plan-reads.Learnt, plan-behind-reads.Asked, plan-behind-reads.Learnt, is-passed-reads.Asked, is-passed-reads.Learnt, is-branches-reads.Asked, is-branches-reads.Learnt, walk-list-below t, walk-list.Post, either-reads.Asked, either-reads.Learnt, gathered-reads.Asked, gathered-reads.Learnt, of-answered-reads.Asked, of-answered-reads.Learnt, pass-row-reads.Asked, pass-row-reads.Learnt, stopped-reads.Asked, stopped-reads.Learnt, of-passed-reads.Asked, of-passed-reads.Learnt, next-plan-reads.Asked, next-plan-reads.Learnt) (behind-child-at t) behind-child.Post
 behind-child-sub-left t c = omega (arith, behind-left (contextOf (read ((c .before .before .before .before .before .before .before .before) .args .file .now))) ((c .before .before .before .before .before .before .before .before) .args .s) ((c .before .before .before .before .before .before .before .before) .pre .1 .1 .1 .0) ((c .before .before .before .before .before .before .before .before) .pre .1 .1 .1 .1 .2) ((c .before .before .before .work-node) .result) ((c .before .before .before .work-node) .ensures), ((c .before .before .before .before .before .before .before .before) .pre .1 .1 .1 .1 .2) .reaches .some, (c .before .before .size) .ensures .0)
 
-behind-child-is-passed-requires : (t : ℕ) → behind-child-lts.Need-is-passed-requires (work-node-reads.Asked, work-node-reads.Learnt, size-reads.Asked, size-reads.Learnt, is-passed-reads.Asked, is-passed-reads.Learnt, pass-row-reads.Asked, pass-row-reads.Learnt, stopped-reads.Asked, stopped-reads.Learnt, gathered-reads.Asked, gathered-reads.Learnt, of-answered-reads.Asked, of-answered-reads.Learnt, of-passed-reads.Asked, of-passed-reads.Learnt, link-plan-reads.Asked, link-plan-reads.Learnt, next-plan-reads.Asked, next-plan-reads.Learnt, walk-list-below t, walk-list.Post) (behind-child-at t) behind-child.Post
-behind-child-is-passed-requires t c κs = tt
-
-behind-child-pass-row-requires : (t : ℕ) → behind-child-lts.Need-pass-row-requires (work-node-reads.Asked, work-node-reads.Learnt, size-reads.Asked, size-reads.Learnt, is-passed-reads.Asked, is-passed-reads.Learnt, pass-row-reads.Asked, pass-row-reads.Learnt, stopped-reads.Asked, stopped-reads.Learnt, gathered-reads.Asked, gathered-reads.Learnt, of-answered-reads.Asked, of-answered-reads.Learnt, of-passed-reads.Asked, of-passed-reads.Learnt, link-plan-reads.Asked, link-plan-reads.Learnt, next-plan-reads.Asked, next-plan-reads.Learnt, walk-list-below t, walk-list.Post) (behind-child-at t) behind-child.Post
-behind-child-pass-row-requires t c κs = row-stands (subst (SearchableRow ((c .before .before .before .before .before .before .before .before .before .before .before .before) .args .nodes .now) ((c .before .before .before .before .before .before .before .before .before .before .before .before) .args .w .next .0)) (sym (same-left (contextOf (read ((c .before .before .before .before .before .before .before .before .before .before .before .before) .args .file .now))) ((c .before .before .before .before .before .before .before .before .before .before .before .before) .args .s) ((c .before .before .before .before .before .before .before .before .before .before .before .before) .pre .1 .1 .1 .0) ((c .before .before .before .before .before .before .before .before .before .before .before .before) .pre .1 .1 .1 .1 .2) ((c .before .before .before .before .before .before .before .work-node) .result) ((c .before .before .before .before .before .before .before .work-node) .ensures) ((c .before .before .before .before .before .before .size) .result) ((c .before .before .before .before .before .before .size) .ensures .0))) (behind-row (contextOf (read ((c .before .before .before .before .before .before .before .before .before .before .before .before) .args .file .now))) ((c .before .before .before .before .before .before .before .before .before .before .before .before) .args .s) ((c .before .before .before .before .before .before .before .before .before .before .before .before) .pre .1 .1 .1 .0) ((c .before .before .before .before .before .before .before .before .before .before .before .before) .pre .1 .1 .1 .1 .2) .0))
-
-behind-child-stopped-requires : (t : ℕ) → behind-child-lts.Need-stopped-requires (work-node-reads.Asked, work-node-reads.Learnt, size-reads.Asked, size-reads.Learnt, is-passed-reads.Asked, is-passed-reads.Learnt, pass-row-reads.Asked, pass-row-reads.Learnt, stopped-reads.Asked, stopped-reads.Learnt, gathered-reads.Asked, gathered-reads.Learnt, of-answered-reads.Asked, of-answered-reads.Learnt, of-passed-reads.Asked, of-passed-reads.Learnt, link-plan-reads.Asked, link-plan-reads.Learnt, next-plan-reads.Asked, next-plan-reads.Learnt, walk-list-below t, walk-list.Post) (behind-child-at t) behind-child.Post
-behind-child-stopped-requires t c κs = tt
-
-behind-child-gathered-requires : (t : ℕ) → behind-child-lts.Need-gathered-requires (work-node-reads.Asked, work-node-reads.Learnt, size-reads.Asked, size-reads.Learnt, is-passed-reads.Asked, is-passed-reads.Learnt, pass-row-reads.Asked, pass-row-reads.Learnt, stopped-reads.Asked, stopped-reads.Learnt, gathered-reads.Asked, gathered-reads.Learnt, of-answered-reads.Asked, of-answered-reads.Learnt, of-passed-reads.Asked, of-passed-reads.Learnt, link-plan-reads.Asked, link-plan-reads.Learnt, next-plan-reads.Asked, next-plan-reads.Learnt, walk-list-below t, walk-list.Post) (behind-child-at t) behind-child.Post
-behind-child-gathered-requires t c κs = let e : (c .stopped) .result .looks ≡ (c .before .before .before .before .before .before .before .before .before .before .before .before .before .before .before) .args .w .looks = ap (λ x. x .looks) ((c .stopped) .ensures) in omega (arith, e, behind-room (contextOf (read ((c .before .before .before .before .before .before .before .before .before .before .before .before .before .before .before) .args .file .now))) ((c .before .before .before .before .before .before .before .before .before .before .before .before .before .before .before) .args .s) ((c .before .before .before .before .before .before .before .before .before .before .before .before .before .before .before) .pre .1 .1 .1 .0) ((c .before .before .before .before .before .before .before .before .before .before .before .before .before .before .before) .pre .1 .1 .1 .1 .2), behind-seen (contextOf (read ((c .before .before .before .before .before .before .before .before .before .before .before .before .before .before .before) .args .file .now))) ((c .before .before .before .before .before .before .before .before .before .before .before .before .before .before .before) .args .s) ((c .before .before .before .before .before .before .before .before .before .before .before .before .before .before .before) .pre .1 .1 .1 .0) ((c .before .before .before .before .before .before .before .before .before .before .before .before .before .before .before) .pre .1 .1 .1 .1 .2), behind-looks (contextOf (read ((c .before .before .before .before .before .before .before .before .before .before .before .before .before .before .before) .args .file .now))) ((c .before .before .before .before .before .before .before .before .before .before .before .before .before .before .before) .args .s) ((c .before .before .before .before .before .before .before .before .before .before .before .before .before .before .before) .pre .1 .1 .1 .0) ((c .before .before .before .before .before .before .before .before .before .before .before .before .before .before .before) .pre .1 .1 .1 .1 .2), (c .before .before .before .before .before .before .before .before .before .before .before .before .before .before .before) .good .1 .1 .0)
-
-behind-child-of-answered-requires : (t : ℕ) → behind-child-lts.Need-of-answered-requires (work-node-reads.Asked, work-node-reads.Learnt, size-reads.Asked, size-reads.Learnt, is-passed-reads.Asked, is-passed-reads.Learnt, pass-row-reads.Asked, pass-row-reads.Learnt, stopped-reads.Asked, stopped-reads.Learnt, gathered-reads.Asked, gathered-reads.Learnt, of-answered-reads.Asked, of-answered-reads.Learnt, of-passed-reads.Asked, of-passed-reads.Learnt, link-plan-reads.Asked, link-plan-reads.Learnt, next-plan-reads.Asked, next-plan-reads.Learnt, walk-list-below t, walk-list.Post) (behind-child-at t) behind-child.Post
-behind-child-of-answered-requires t c κs = let e : (c .before .before .stopped) .result .looks ≡ (c .before .before .before .before .before .before .before .before .before .before .before .before .before .before .before .before .before) .args .w .looks = ap (λ x. x .looks) ((c .before .before .stopped) .ensures) in let f : (c .before .gathered) .result .looks ≡ (c .before .before .before .before .before .before .before .before .before .before .before .before .before .before .before .before .before) .args .b .looks + (c .before .before .stopped) .result .looks = ap (λ x. x .looks) ((c .before .gathered) .ensures) in (behind-room (contextOf (read ((c .before .before .before .before .before .before .before .before .before .before .before .before .before .before .before .before .before) .args .file .now))) ((c .before .before .before .before .before .before .before .before .before .before .before .before .before .before .before .before .before) .args .s) ((c .before .before .before .before .before .before .before .before .before .before .before .before .before .before .before .before .before) .pre .1 .1 .1 .0) ((c .before .before .before .before .before .before .before .before .before .before .before .before .before .before .before .before .before) .pre .1 .1 .1 .1 .2), omega (arith, e, f, behind-room (contextOf (read ((c .before .before .before .before .before .before .before .before .before .before .before .before .before .before .before .before .before) .args .file .now))) ((c .before .before .before .before .before .before .before .before .before .before .before .before .before .before .before .before .before) .args .s) ((c .before .before .before .before .before .before .before .before .before .before .before .before .before .before .before .before .before) .pre .1 .1 .1 .0) ((c .before .before .before .before .before .before .before .before .before .before .before .before .before .before .before .before .before) .pre .1 .1 .1 .1 .2), behind-seen (contextOf (read ((c .before .before .before .before .before .before .before .before .before .before .before .before .before .before .before .before .before) .args .file .now))) ((c .before .before .before .before .before .before .before .before .before .before .before .before .before .before .before .before .before) .args .s) ((c .before .before .before .before .before .before .before .before .before .before .before .before .before .before .before .before .before) .pre .1 .1 .1 .0) ((c .before .before .before .before .before .before .before .before .before .before .before .before .before .before .before .before .before) .pre .1 .1 .1 .1 .2), behind-looks (contextOf (read ((c .before .before .before .before .before .before .before .before .before .before .before .before .before .before .before .before .before) .args .file .now))) ((c .before .before .before .before .before .before .before .before .before .before .before .before .before .before .before .before .before) .args .s) ((c .before .before .before .before .before .before .before .before .before .before .before .before .before .before .before .before .before) .pre .1 .1 .1 .0) ((c .before .before .before .before .before .before .before .before .before .before .before .before .before .before .before .before .before) .pre .1 .1 .1 .1 .2), (c .before .before .before .before .before .before .before .before .before .before .before .before .before .before .before .before .before) .good .1 .1 .0))
-
-behind-child-same-length : (t : ℕ) → behind-child-lts.Need-same-length (work-node-reads.Asked, work-node-reads.Learnt, size-reads.Asked, size-reads.Learnt, is-passed-reads.Asked, is-passed-reads.Learnt, pass-row-reads.Asked, pass-row-reads.Learnt, stopped-reads.Asked, stopped-reads.Learnt, gathered-reads.Asked, gathered-reads.Learnt, of-answered-reads.Asked, of-answered-reads.Learnt, of-passed-reads.Asked, of-passed-reads.Learnt, link-plan-reads.Asked, link-plan-reads.Learnt, next-plan-reads.Asked, next-plan-reads.Learnt, walk-list-below t, walk-list.Post) (behind-child-at t) behind-child.Post
-behind-child-same-length t c = search needs
-
-behind-child-returns : (t : ℕ) → behind-child-lts.Need-returns (work-node-reads.Asked, work-node-reads.Learnt, size-reads.Asked, size-reads.Learnt, is-passed-reads.Asked, is-passed-reads.Learnt, pass-row-reads.Asked, pass-row-reads.Learnt, stopped-reads.Asked, stopped-reads.Learnt, gathered-reads.Asked, gathered-reads.Learnt, of-answered-reads.Asked, of-answered-reads.Learnt, of-passed-reads.Asked, of-passed-reads.Learnt, link-plan-reads.Asked, link-plan-reads.Learnt, next-plan-reads.Asked, next-plan-reads.Learnt, walk-list-below t, walk-list.Post) (behind-child-at t) behind-child.Post
-behind-child-returns t c = λ table₀ left g. child-behind (contextOf (read ((c .before .before .before .before .before .before .before .before .before .before .before .before .before .before .before .before .before .before .before .before) .args .file .now))) ((c .before .before .before .before .before .before .before .before .before .before .before .before .before .before .before .before .before .before .before .before) .args .s) ((c .before .before .before .before .before .before .before .before .before .before .before .before .before .before .before .before .before .before .before .before) .pre .1 .1 .1 .0) g ((c .before .before .before .before .before .before .before .before .before .before .before .before .before .before .before .work-node) .result) ((c .before .before .before .before .before .before .before .before .before .before .before .before .before .before .before .work-node) .ensures) (row-ended (contextOf (read ((c .before .before .before .before .before .before .before .before .before .before .before .before .before .before .before .before .before .before .before .before) .args .file .now))) ((c .before .before .before .before .before .before .before .before .before .before .before .before .before .before .before .before .before .before .before .before) .args .s) ((c .before .before .before .before .before .before .before .before .before .before .before .before .before .before .before .before .before .before .before .before) .pre .1 .1 .1 .0) g ((c .before .before .before .before .before .before .before .before .before .before .before .before .before .before .before .work-node) .result) ((c .before .before .before .before .before .before .before .before .before .before .before .before .before .before .before .work-node) .ensures) ((c .before .before .before .before .before .stopped) .result) (sym ((c .before .before .before .before .before .before .before .before .before .before .is-passed) .ensures) ∙ not-true ((c .before .before .before .before .before .before .before .before .before .before .is-passed) .result) ((c .before .before .before .before .before .before .before .before .before .if1) .taken)) (subst (λ k. Passes ((c .before .before .before .before .before .before .before .before .before .before .before .before .before .before .before .before .before .before .before .before) .args .nodes .now) ((c .before .before .before .before .before .before .before .before .before .before .before .before .before .before .before .before .before .before .before .before) .args .w .next .0) k ((c .before .before .before .before .before .before .before .pass-row) .result .next .0) ((c .before .before .before .before .before .before .before .pass-row) .result .effect)) (same-left (contextOf (read ((c .before .before .before .before .before .before .before .before .before .before .before .before .before .before .before .before .before .before .before .before) .args .file .now))) ((c .before .before .before .before .before .before .before .before .before .before .before .before .before .before .before .before .before .before .before .before) .args .s) ((c .before .before .before .before .before .before .before .before .before .before .before .before .before .before .before .before .before .before .before .before) .pre .1 .1 .1 .0) g ((c .before .before .before .before .before .before .before .before .before .before .before .before .before .before .before .work-node) .result) ((c .before .before .before .before .before .before .before .before .before .before .before .before .before .before .before .work-node) .ensures) ((c .before .before .before .before .before .before .before .before .before .before .before .before .before .before .size) .result) ((c .before .before .before .before .before .before .before .before .before .before .before .before .before .before .size) .ensures .0)) ((c .before .before .before .before .before .before .before .pass-row) .ensures)) (ap (λ x. x .answer) ((c .before .before .before .before .before .stopped) .ensures)) (ap (λ x. x .next .0) ((c .before .before .before .before .before .stopped) .ensures)) (ap (λ x. x .looks) ((c .before .before .before .before .before .stopped) .ensures)) ((c .before .before .before .before .gathered) .ensures)) ((c .before .before .of-answered) .ensures .0 (ap (λ x. isPassed (x .answer)) ((c .before .before .before .before .gathered) .ensures) ∙ ap (λ x. isPassed (x .answer)) ((c .before .before .before .before .before .stopped) .ensures)) (contextOf (read ((c .before .before .before .before .before .before .before .before .before .before .before .before .before .before .before .before .before .before .before .before) .args .file .now))) false ((c .before .before .before .before .before .before .before .before .before .before .before .before .before .before .before .before .before .before .before .before) .args .s))
-
-behind-child-gathered-requires-2 : (t : ℕ) → behind-child-lts.Need-gathered-requires-2 (work-node-reads.Asked, work-node-reads.Learnt, size-reads.Asked, size-reads.Learnt, is-passed-reads.Asked, is-passed-reads.Learnt, pass-row-reads.Asked, pass-row-reads.Learnt, stopped-reads.Asked, stopped-reads.Learnt, gathered-reads.Asked, gathered-reads.Learnt, of-answered-reads.Asked, of-answered-reads.Learnt, of-passed-reads.Asked, of-passed-reads.Learnt, link-plan-reads.Asked, link-plan-reads.Learnt, next-plan-reads.Asked, next-plan-reads.Learnt, walk-list-below t, walk-list.Post) (behind-child-at t) behind-child.Post
-behind-child-gathered-requires-2 t c κs = omega (arith, behind-room (contextOf (read ((c .before .before .before .before .before .before .before .before .before .before .before .before) .args .file .now))) ((c .before .before .before .before .before .before .before .before .before .before .before .before) .args .s) ((c .before .before .before .before .before .before .before .before .before .before .before .before) .pre .1 .1 .1 .0) ((c .before .before .before .before .before .before .before .before .before .before .before .before) .pre .1 .1 .1 .1 .2), behind-seen (contextOf (read ((c .before .before .before .before .before .before .before .before .before .before .before .before) .args .file .now))) ((c .before .before .before .before .before .before .before .before .before .before .before .before) .args .s) ((c .before .before .before .before .before .before .before .before .before .before .before .before) .pre .1 .1 .1 .0) ((c .before .before .before .before .before .before .before .before .before .before .before .before) .pre .1 .1 .1 .1 .2), behind-looks (contextOf (read ((c .before .before .before .before .before .before .before .before .before .before .before .before) .args .file .now))) ((c .before .before .before .before .before .before .before .before .before .before .before .before) .args .s) ((c .before .before .before .before .before .before .before .before .before .before .before .before) .pre .1 .1 .1 .0) ((c .before .before .before .before .before .before .before .before .before .before .before .before) .pre .1 .1 .1 .1 .2), (c .before .before .before .before .before .before .before .before .before .before .before .before) .good .1 .1 .0)
-
-behind-child-of-passed-requires : (t : ℕ) → behind-child-lts.Need-of-passed-requires (work-node-reads.Asked, work-node-reads.Learnt, size-reads.Asked, size-reads.Learnt, is-passed-reads.Asked, is-passed-reads.Learnt, pass-row-reads.Asked, pass-row-reads.Learnt, stopped-reads.Asked, stopped-reads.Learnt, gathered-reads.Asked, gathered-reads.Learnt, of-answered-reads.Asked, of-answered-reads.Learnt, of-passed-reads.Asked, of-passed-reads.Learnt, link-plan-reads.Asked, link-plan-reads.Learnt, next-plan-reads.Asked, next-plan-reads.Learnt, walk-list-below t, walk-list.Post) (behind-child-at t) behind-child.Post
-behind-child-of-passed-requires t c κs = let e : (c .gathered2) .result .looks ≡ (c .before .before .before .before .before .before .before .before .before .before .before .before .before) .args .b .looks + (c .before .before .before .before .before .before .before .before .before .before .before .before .before) .args .w .looks = ap (λ x. x .looks) ((c .gathered2) .ensures) in ((c .before .before .before .before .before .before .before .before .before .before .before .before .before) .pre .1 .0, ((c .before .before .before .before .before .before .before .before .before .before .before .before .before) .pre .1 .1 .0, omega (arith, e, behind-room (contextOf (read ((c .before .before .before .before .before .before .before .before .before .before .before .before .before) .args .file .now))) ((c .before .before .before .before .before .before .before .before .before .before .before .before .before) .args .s) ((c .before .before .before .before .before .before .before .before .before .before .before .before .before) .pre .1 .1 .1 .0) ((c .before .before .before .before .before .before .before .before .before .before .before .before .before) .pre .1 .1 .1 .1 .2), behind-seen (contextOf (read ((c .before .before .before .before .before .before .before .before .before .before .before .before .before) .args .file .now))) ((c .before .before .before .before .before .before .before .before .before .before .before .before .before) .args .s) ((c .before .before .before .before .before .before .before .before .before .before .before .before .before) .pre .1 .1 .1 .0) ((c .before .before .before .before .before .before .before .before .before .before .before .before .before) .pre .1 .1 .1 .1 .2), behind-looks (contextOf (read ((c .before .before .before .before .before .before .before .before .before .before .before .before .before) .args .file .now))) ((c .before .before .before .before .before .before .before .before .before .before .before .before .before) .args .s) ((c .before .before .before .before .before .before .before .before .before .before .before .before .before) .pre .1 .1 .1 .0) ((c .before .before .before .before .before .before .before .before .before .before .before .before .before) .pre .1 .1 .1 .1 .2), (c .before .before .before .before .before .before .before .before .before .before .before .before .before) .good .1 .1 .0)))
-
-behind-child-same-length-2 : (t : ℕ) → behind-child-lts.Need-same-length-2 (work-node-reads.Asked, work-node-reads.Learnt, size-reads.Asked, size-reads.Learnt, is-passed-reads.Asked, is-passed-reads.Learnt, pass-row-reads.Asked, pass-row-reads.Learnt, stopped-reads.Asked, stopped-reads.Learnt, gathered-reads.Asked, gathered-reads.Learnt, of-answered-reads.Asked, of-answered-reads.Learnt, of-passed-reads.Asked, of-passed-reads.Learnt, link-plan-reads.Asked, link-plan-reads.Learnt, next-plan-reads.Asked, next-plan-reads.Learnt, walk-list-below t, walk-list.Post) (behind-child-at t) behind-child.Post
-behind-child-same-length-2 t c = search needs
-
-behind-child-returns-2 : (t : ℕ) → behind-child-lts.Need-returns-2 (work-node-reads.Asked, work-node-reads.Learnt, size-reads.Asked, size-reads.Learnt, is-passed-reads.Asked, is-passed-reads.Learnt, pass-row-reads.Asked, pass-row-reads.Learnt, stopped-reads.Asked, stopped-reads.Learnt, gathered-reads.Asked, gathered-reads.Learnt, of-answered-reads.Asked, of-answered-reads.Learnt, of-passed-reads.Asked, of-passed-reads.Learnt, link-plan-reads.Asked, link-plan-reads.Learnt, next-plan-reads.Asked, next-plan-reads.Learnt, walk-list-below t, walk-list.Post) (behind-child-at t) behind-child.Post
-behind-child-returns-2 t c = λ table₀ left g. child-behind (contextOf (read ((c .before .before .before .before .before .before .before .before .before .before .before .before .before .before) .args .file .now))) ((c .before .before .before .before .before .before .before .before .before .before .before .before .before .before) .args .s) ((c .before .before .before .before .before .before .before .before .before .before .before .before .before .before) .pre .1 .1 .1 .0) g ((c .before .before .before .before .before .before .before .before .before .work-node) .result) ((c .before .before .before .before .before .before .before .before .before .work-node) .ensures) (row-last (contextOf (read ((c .before .before .before .before .before .before .before .before .before .before .before .before .before .before) .args .file .now))) ((c .before .before .before .before .before .before .before .before .before .before .before .before .before .before) .args .s) ((c .before .before .before .before .before .before .before .before .before .before .before .before .before .before) .pre .1 .1 .1 .0) g ((c .before .before .before .before .before .before .before .before .before .work-node) .result) ((c .before .before .before .before .before .before .before .before .before .work-node) .ensures) (sym (same-left (contextOf (read ((c .before .before .before .before .before .before .before .before .before .before .before .before .before .before) .args .file .now))) ((c .before .before .before .before .before .before .before .before .before .before .before .before .before .before) .args .s) ((c .before .before .before .before .before .before .before .before .before .before .before .before .before .before) .pre .1 .1 .1 .0) g ((c .before .before .before .before .before .before .before .before .before .work-node) .result) ((c .before .before .before .before .before .before .before .before .before .work-node) .ensures) ((c .before .before .before .before .before .before .before .before .size) .result) ((c .before .before .before .before .before .before .before .before .size) .ensures .0)) ∙ (c .before .before .if2) .taken) ((c .before .gathered2) .ensures)) ((c .of-passed) .ensures (ap (λ x. isPassed (x .answer)) ((c .before .gathered2) .ensures) ∙ (sym ((c .before .before .before .before .is-passed) .ensures) ∙ not-false ((c .before .before .before .before .is-passed) .result) ((c .before .before .before .if1) .left))) ((c .before .before .before .before .before .before .before .before .before .before .before .before .before .before) .args .nodes .now) ((c .before .before .before .before .before .before .before .before .before .before .before .before .before .before) .args .b .link .0))
-
-behind-child-link-plan-requires : (t : ℕ) → behind-child-lts.Need-link-plan-requires (work-node-reads.Asked, work-node-reads.Learnt, size-reads.Asked, size-reads.Learnt, is-passed-reads.Asked, is-passed-reads.Learnt, pass-row-reads.Asked, pass-row-reads.Learnt, stopped-reads.Asked, stopped-reads.Learnt, gathered-reads.Asked, gathered-reads.Learnt, of-answered-reads.Asked, of-answered-reads.Learnt, of-passed-reads.Asked, of-passed-reads.Learnt, link-plan-reads.Asked, link-plan-reads.Learnt, next-plan-reads.Asked, next-plan-reads.Learnt, walk-list-below t, walk-list.Post) (behind-child-at t) behind-child.Post
+behind-child-link-plan-requires : (t : ℕ) → behind-child-lts.Need-link-plan-requires (work-node-reads.Asked, work-node-reads.Learnt, size-reads.Asked, size-reads.Learnt, link-plan-reads.Asked, link-plan-reads.Learnt, plan-behind-reads.Asked, plan-behind-reads.Learnt, is-passed-reads.Asked, is-passed-reads.Learnt, is-branches-reads.Asked, is-branches-reads.Learnt, walk-list-below t, walk-list.Post, either-reads.Asked, either-reads.Learnt, gathered-reads.Asked, gathered-reads.Learnt, of-answered-reads.Asked, of-answered-reads.Learnt, pass-row-reads.Asked, pass-row-reads.Learnt, stopped-reads.Asked, stopped-reads.Learnt, of-passed-reads.Asked, of-passed-reads.Learnt, next-plan-reads.Asked, next-plan-reads.Learnt) (behind-child-at t) behind-child.Post
 behind-child-link-plan-requires t c κs = tt
 
-behind-child-next-plan-requires : (t : ℕ) → behind-child-lts.Need-next-plan-requires (work-node-reads.Asked, work-node-reads.Learnt, size-reads.Asked, size-reads.Learnt, is-passed-reads.Asked, is-passed-reads.Learnt, pass-row-reads.Asked, pass-row-reads.Learnt, stopped-reads.Asked, stopped-reads.Learnt, gathered-reads.Asked, gathered-reads.Learnt, of-answered-reads.Asked, of-answered-reads.Learnt, of-passed-reads.Asked, of-passed-reads.Learnt, link-plan-reads.Asked, link-plan-reads.Learnt, next-plan-reads.Asked, next-plan-reads.Learnt, walk-list-below t, walk-list.Post) (behind-child-at t) behind-child.Post
-behind-child-next-plan-requires t c κs = tt
+behind-child-sub-plan-behind : (t : ℕ) → behind-child-lts.Need-sub-plan-behind (work-node-reads.Asked, work-node-reads.Learnt, size-reads.Asked, size-reads.Learnt, link-plan-reads.Asked, link-plan-reads.Learnt, plan-behind-reads.Asked, plan-behind-reads.Learnt, is-passed-reads.Asked, is-passed-reads.Learnt, is-branches-reads.Asked, is-branches-reads.Learnt, walk-list-below t, walk-list.Post, either-reads.Asked, either-reads.Learnt, gathered-reads.Asked, gathered-reads.Learnt, of-answered-reads.Asked, of-answered-reads.Learnt, pass-row-reads.Asked, pass-row-reads.Learnt, stopped-reads.Asked, stopped-reads.Learnt, of-passed-reads.Asked, of-passed-reads.Learnt, next-plan-reads.Asked, next-plan-reads.Learnt) (behind-child-at t) behind-child.Post
+behind-child-sub-plan-behind t c = omega (arith, ((c .before .before .before .before .before .before .before .before .before .before .before) .pre .1 .1 .1 .1 .2) .reaches .later)
 
-behind-child-walk-list-requires : (t : ℕ) → behind-child-lts.Need-walk-list-requires (work-node-reads.Asked, work-node-reads.Learnt, size-reads.Asked, size-reads.Learnt, is-passed-reads.Asked, is-passed-reads.Learnt, pass-row-reads.Asked, pass-row-reads.Learnt, stopped-reads.Asked, stopped-reads.Learnt, gathered-reads.Asked, gathered-reads.Learnt, of-answered-reads.Asked, of-answered-reads.Learnt, of-passed-reads.Asked, of-passed-reads.Learnt, link-plan-reads.Asked, link-plan-reads.Learnt, next-plan-reads.Asked, next-plan-reads.Learnt, walk-list-below t, walk-list.Post) (behind-child-at t) behind-child.Post
-behind-child-walk-list-requires t c κs = (omega (arith, (c .before .before .before .before .before .before .before .before .before .before .before .before .before .before .before) .pre .0, behind-row (contextOf (read ((c .before .before .before .before .before .before .before .before .before .before .before .before .before .before .before) .args .file .now))) ((c .before .before .before .before .before .before .before .before .before .before .before .before .before .before .before) .args .s) ((c .before .before .before .before .before .before .before .before .before .before .before .before .before .before .before) .pre .1 .1 .1 .0) ((c .before .before .before .before .before .before .before .before .before .before .before .before .before .before .before) .pre .1 .1 .1 .1 .2) .1, ((c .before .before .before .before .before .before .before .before .before .before .before .before .before .before .before) .pre .1 .1 .1 .1 .2) .reaches .later, behind-room (contextOf (read ((c .before .before .before .before .before .before .before .before .before .before .before .before .before .before .before) .args .file .now))) ((c .before .before .before .before .before .before .before .before .before .before .before .before .before .before .before) .args .s) ((c .before .before .before .before .before .before .before .before .before .before .before .before .before .before .before) .pre .1 .1 .1 .0) ((c .before .before .before .before .before .before .before .before .before .before .before .before .before .before .before) .pre .1 .1 .1 .1 .2)), ((c .before .before .before .before .before .before .before .before .before .before .before .before .before .before .before) .pre .1 .0, ((c .before .before .before .before .before .before .before .before .before .before .before .before .before .before .before) .pre .1 .1 .0, ((subst (SearchableRow ((c .before .before .before .before .before .before .before .before .before .before .before .before .before .before .before) .args .nodes .now) ((c .before .before .before .before .before .before .before .before .before .before .before .before .before .before .before) .args .w .next .0)) (sym (same-left (contextOf (read ((c .before .before .before .before .before .before .before .before .before .before .before .before .before .before .before) .args .file .now))) ((c .before .before .before .before .before .before .before .before .before .before .before .before .before .before .before) .args .s) ((c .before .before .before .before .before .before .before .before .before .before .before .before .before .before .before) .pre .1 .1 .1 .0) ((c .before .before .before .before .before .before .before .before .before .before .before .before .before .before .before) .pre .1 .1 .1 .1 .2) ((c .before .before .before .before .before .before .before .before .before .before .work-node) .result) ((c .before .before .before .before .before .before .before .before .before .before .work-node) .ensures) ((c .before .before .before .before .before .before .before .before .before .size) .result) ((c .before .before .before .before .before .before .before .before .before .size) .ensures .0))) (behind-row (contextOf (read ((c .before .before .before .before .before .before .before .before .before .before .before .before .before .before .before) .args .file .now))) ((c .before .before .before .before .before .before .before .before .before .before .before .before .before .before .before) .args .s) ((c .before .before .before .before .before .before .before .before .before .before .before .before .before .before .before) .pre .1 .1 .1 .0) ((c .before .before .before .before .before .before .before .before .before .before .before .before .before .before .before) .pre .1 .1 .1 .1 .2) .0)), ((c .before .before .before .before .before .before .before .before .before .before .before .before .before .before .before) .pre .1 .1 .1 .0)))))
+behind-child-sub-plan-behind-2 : (t : ℕ) → behind-child-lts.Need-sub-plan-behind-2 (work-node-reads.Asked, work-node-reads.Learnt, size-reads.Asked, size-reads.Learnt, link-plan-reads.Asked, link-plan-reads.Learnt, plan-behind-reads.Asked, plan-behind-reads.Learnt, is-passed-reads.Asked, is-passed-reads.Learnt, is-branches-reads.Asked, is-branches-reads.Learnt, walk-list-below t, walk-list.Post, either-reads.Asked, either-reads.Learnt, gathered-reads.Asked, gathered-reads.Learnt, of-answered-reads.Asked, of-answered-reads.Learnt, pass-row-reads.Asked, pass-row-reads.Learnt, stopped-reads.Asked, stopped-reads.Learnt, of-passed-reads.Asked, of-passed-reads.Learnt, next-plan-reads.Asked, next-plan-reads.Learnt) (behind-child-at t) behind-child.Post
+behind-child-sub-plan-behind-2 t c = omega (arith, ((c .before .before .before .before .before .before .before .before .before .before .before) .pre .1 .1 .1 .1 .2) .reaches .later)
 
-behind-child-add-gathered : (t : ℕ) → behind-child-lts.Need-add-gathered (work-node-reads.Asked, work-node-reads.Learnt, size-reads.Asked, size-reads.Learnt, is-passed-reads.Asked, is-passed-reads.Learnt, pass-row-reads.Asked, pass-row-reads.Learnt, stopped-reads.Asked, stopped-reads.Learnt, gathered-reads.Asked, gathered-reads.Learnt, of-answered-reads.Asked, of-answered-reads.Learnt, of-passed-reads.Asked, of-passed-reads.Learnt, link-plan-reads.Asked, link-plan-reads.Learnt, next-plan-reads.Asked, next-plan-reads.Learnt, walk-list-below t, walk-list.Post) (behind-child-at t) behind-child.Post
-behind-child-add-gathered t c = omega (arith, behind-room (contextOf (read ((c .before .before .before .before .before .before .before .before .before .before .before .before .before .before .before .before .before .before .before .before .before .before) .args .file .now))) ((c .before .before .before .before .before .before .before .before .before .before .before .before .before .before .before .before .before .before .before .before .before .before) .args .s) ((c .before .before .before .before .before .before .before .before .before .before .before .before .before .before .before .before .before .before .before .before .before .before) .pre .1 .1 .1 .0) ((c .before .before .before .before .before .before .before .before .before .before .before .before .before .before .before .before .before .before .before .before .before .before) .pre .1 .1 .1 .1 .2), behind-seen (contextOf (read ((c .before .before .before .before .before .before .before .before .before .before .before .before .before .before .before .before .before .before .before .before .before .before) .args .file .now))) ((c .before .before .before .before .before .before .before .before .before .before .before .before .before .before .before .before .before .before .before .before .before .before) .args .s) ((c .before .before .before .before .before .before .before .before .before .before .before .before .before .before .before .before .before .before .before .before .before .before) .pre .1 .1 .1 .0) ((c .before .before .before .before .before .before .before .before .before .before .before .before .before .before .before .before .before .before .before .before .before .before) .pre .1 .1 .1 .1 .2), behind-looks (contextOf (read ((c .before .before .before .before .before .before .before .before .before .before .before .before .before .before .before .before .before .before .before .before .before .before) .args .file .now))) ((c .before .before .before .before .before .before .before .before .before .before .before .before .before .before .before .before .before .before .before .before .before .before) .args .s) ((c .before .before .before .before .before .before .before .before .before .before .before .before .before .before .before .before .before .before .before .before .before .before) .pre .1 .1 .1 .0) ((c .before .before .before .before .before .before .before .before .before .before .before .before .before .before .before .before .before .before .before .before .before .before) .pre .1 .1 .1 .1 .2), (c .before .before .before .before .before .before .before .before .before .before .before .before .before .before .before .before .before .before .before .before .before .before) .good .1 .1 .0)
+behind-child-plan-behind-requires : (t : ℕ) → behind-child-lts.Need-plan-behind-requires (work-node-reads.Asked, work-node-reads.Learnt, size-reads.Asked, size-reads.Learnt, link-plan-reads.Asked, link-plan-reads.Learnt, plan-behind-reads.Asked, plan-behind-reads.Learnt, is-passed-reads.Asked, is-passed-reads.Learnt, is-branches-reads.Asked, is-branches-reads.Learnt, walk-list-below t, walk-list.Post, either-reads.Asked, either-reads.Learnt, gathered-reads.Asked, gathered-reads.Learnt, of-answered-reads.Asked, of-answered-reads.Learnt, pass-row-reads.Asked, pass-row-reads.Learnt, stopped-reads.Asked, stopped-reads.Learnt, of-passed-reads.Asked, of-passed-reads.Learnt, next-plan-reads.Asked, next-plan-reads.Learnt) (behind-child-at t) behind-child.Post
+behind-child-plan-behind-requires t c κs = tt
 
-behind-child-gathered-requires-3 : (t : ℕ) → behind-child-lts.Need-gathered-requires-3 (work-node-reads.Asked, work-node-reads.Learnt, size-reads.Asked, size-reads.Learnt, is-passed-reads.Asked, is-passed-reads.Learnt, pass-row-reads.Asked, pass-row-reads.Learnt, stopped-reads.Asked, stopped-reads.Learnt, gathered-reads.Asked, gathered-reads.Learnt, of-answered-reads.Asked, of-answered-reads.Learnt, of-passed-reads.Asked, of-passed-reads.Learnt, link-plan-reads.Asked, link-plan-reads.Learnt, next-plan-reads.Asked, next-plan-reads.Learnt, walk-list-below t, walk-list.Post) (behind-child-at t) behind-child.Post
-behind-child-gathered-requires-3 t c κs = omega (arith, behind-row (contextOf (read ((c .before .before .before .before .before .before .before .before .before .before .before .before .before .before .before .before .before .before .before .before .before .before) .args .file .now))) ((c .before .before .before .before .before .before .before .before .before .before .before .before .before .before .before .before .before .before .before .before .before .before) .args .s) ((c .before .before .before .before .before .before .before .before .before .before .before .before .before .before .before .before .before .before .before .before .before .before) .pre .1 .1 .1 .0) ((c .before .before .before .before .before .before .before .before .before .before .before .before .before .before .before .before .before .before .before .before .before .before) .pre .1 .1 .1 .1 .2) .2, behind-seen (contextOf (read ((c .before .before .before .before .before .before .before .before .before .before .before .before .before .before .before .before .before .before .before .before .before .before) .args .file .now))) ((c .before .before .before .before .before .before .before .before .before .before .before .before .before .before .before .before .before .before .before .before .before .before) .args .s) ((c .before .before .before .before .before .before .before .before .before .before .before .before .before .before .before .before .before .before .before .before .before .before) .pre .1 .1 .1 .0) ((c .before .before .before .before .before .before .before .before .before .before .before .before .before .before .before .before .before .before .before .before .before .before) .pre .1 .1 .1 .1 .2), row-looks-most (contextOf (read ((c .before .before .before .before .before .before .before .before .before .before .before .before .before .before .before .before .before .before .before .before .before .before) .args .file .now))) ((c .before .before .before .before .before .before .before .before .before .before .before .before .before .before .before .before .before .before .before .before .before .before) .args .s) ((c .before .before .before .before .before .before .before .before .next-plan) .result) ((c .before .before .before .before .before .before .before .before .before .before .before .before .before .before .before .before .before .before .before .before .before .before) .pre .1 .1 .1 .0) (subst (SearchableRow ((c .before .before .before .before .before .before .before .before .before .before .before .before .before .before .before .before .before .before .before .before .before .before) .args .nodes .now) ((c .before .before .before .before .before .before .before .before .before .before .before .before .before .before .before .before .before .before .before .before .before .before) .args .w .next .0)) (sym (same-left (contextOf (read ((c .before .before .before .before .before .before .before .before .before .before .before .before .before .before .before .before .before .before .before .before .before .before) .args .file .now))) ((c .before .before .before .before .before .before .before .before .before .before .before .before .before .before .before .before .before .before .before .before .before .before) .args .s) ((c .before .before .before .before .before .before .before .before .before .before .before .before .before .before .before .before .before .before .before .before .before .before) .pre .1 .1 .1 .0) ((c .before .before .before .before .before .before .before .before .before .before .before .before .before .before .before .before .before .before .before .before .before .before) .pre .1 .1 .1 .1 .2) ((c .before .before .before .before .before .before .before .before .before .before .before .before .before .before .before .before .before .work-node) .result) ((c .before .before .before .before .before .before .before .before .before .before .before .before .before .before .before .before .before .work-node) .ensures) ((c .before .before .before .before .before .before .before .before .before .before .before .before .before .before .before .before .size) .result) ((c .before .before .before .before .before .before .before .before .before .before .before .before .before .before .before .before .size) .ensures .0))) (behind-row (contextOf (read ((c .before .before .before .before .before .before .before .before .before .before .before .before .before .before .before .before .before .before .before .before .before .before) .args .file .now))) ((c .before .before .before .before .before .before .before .before .before .before .before .before .before .before .before .before .before .before .before .before .before .before) .args .s) ((c .before .before .before .before .before .before .before .before .before .before .before .before .before .before .before .before .before .before .before .before .before .before) .pre .1 .1 .1 .0) ((c .before .before .before .before .before .before .before .before .before .before .before .before .before .before .before .before .before .before .before .before .before .before) .pre .1 .1 .1 .1 .2) .0)) ((c .before .before .before .before .before .before .walk-list) .ensures), (c .before .before .before .before .before .before .before .before .before .before .before .before .before .before .before .before .before .before .before .before .before .before) .good .1 .1 .0)
+behind-child-is-passed-requires : (t : ℕ) → behind-child-lts.Need-is-passed-requires (work-node-reads.Asked, work-node-reads.Learnt, size-reads.Asked, size-reads.Learnt, link-plan-reads.Asked, link-plan-reads.Learnt, plan-behind-reads.Asked, plan-behind-reads.Learnt, is-passed-reads.Asked, is-passed-reads.Learnt, is-branches-reads.Asked, is-branches-reads.Learnt, walk-list-below t, walk-list.Post, either-reads.Asked, either-reads.Learnt, gathered-reads.Asked, gathered-reads.Learnt, of-answered-reads.Asked, of-answered-reads.Learnt, pass-row-reads.Asked, pass-row-reads.Learnt, stopped-reads.Asked, stopped-reads.Learnt, of-passed-reads.Asked, of-passed-reads.Learnt, next-plan-reads.Asked, next-plan-reads.Learnt) (behind-child-at t) behind-child.Post
+behind-child-is-passed-requires t c κs = tt
 
-behind-child-is-passed-requires-2 : (t : ℕ) → behind-child-lts.Need-is-passed-requires-2 (work-node-reads.Asked, work-node-reads.Learnt, size-reads.Asked, size-reads.Learnt, is-passed-reads.Asked, is-passed-reads.Learnt, pass-row-reads.Asked, pass-row-reads.Learnt, stopped-reads.Asked, stopped-reads.Learnt, gathered-reads.Asked, gathered-reads.Learnt, of-answered-reads.Asked, of-answered-reads.Learnt, of-passed-reads.Asked, of-passed-reads.Learnt, link-plan-reads.Asked, link-plan-reads.Learnt, next-plan-reads.Asked, next-plan-reads.Learnt, walk-list-below t, walk-list.Post) (behind-child-at t) behind-child.Post
-behind-child-is-passed-requires-2 t c κs = tt
+behind-child-is-branches-requires : (t : ℕ) → behind-child-lts.Need-is-branches-requires (work-node-reads.Asked, work-node-reads.Learnt, size-reads.Asked, size-reads.Learnt, link-plan-reads.Asked, link-plan-reads.Learnt, plan-behind-reads.Asked, plan-behind-reads.Learnt, is-passed-reads.Asked, is-passed-reads.Learnt, is-branches-reads.Asked, is-branches-reads.Learnt, walk-list-below t, walk-list.Post, either-reads.Asked, either-reads.Learnt, gathered-reads.Asked, gathered-reads.Learnt, of-answered-reads.Asked, of-answered-reads.Learnt, pass-row-reads.Asked, pass-row-reads.Learnt, stopped-reads.Asked, stopped-reads.Learnt, of-passed-reads.Asked, of-passed-reads.Learnt, next-plan-reads.Asked, next-plan-reads.Learnt) (behind-child-at t) behind-child.Post
+behind-child-is-branches-requires t c κs = tt
 
-behind-child-of-passed-requires-2 : (t : ℕ) → behind-child-lts.Need-of-passed-requires-2 (work-node-reads.Asked, work-node-reads.Learnt, size-reads.Asked, size-reads.Learnt, is-passed-reads.Asked, is-passed-reads.Learnt, pass-row-reads.Asked, pass-row-reads.Learnt, stopped-reads.Asked, stopped-reads.Learnt, gathered-reads.Asked, gathered-reads.Learnt, of-answered-reads.Asked, of-answered-reads.Learnt, of-passed-reads.Asked, of-passed-reads.Learnt, link-plan-reads.Asked, link-plan-reads.Learnt, next-plan-reads.Asked, next-plan-reads.Learnt, walk-list-below t, walk-list.Post) (behind-child-at t) behind-child.Post
-behind-child-of-passed-requires-2 t c κs = let e : (c .before .before .gathered3) .result .looks ≡ (c .before .before .before .before .before .before .before .before .before .before .before .before .before .before .before .before .before .before .before .before .before .before .before .before .before) .args .b .looks + (c .before .before .before .before .before .before .before .before .before .before .before .before .before .before .before .before .before .before .before .before .before .before .before .before .before) .args .w .looks + (c .before .before .before .before .before .before .before .before .before .walk-list) .result .looks = ap (λ x. x .looks) ((c .before .before .gathered3) .ensures) in ((c .before .before .before .before .before .before .before .before .before .before .before .before .before .before .before .before .before .before .before .before .before .before .before .before .before) .pre .1 .0, ((c .before .before .before .before .before .before .before .before .before .before .before .before .before .before .before .before .before .before .before .before .before .before .before .before .before) .pre .1 .1 .0, omega (arith, e, behind-row (contextOf (read ((c .before .before .before .before .before .before .before .before .before .before .before .before .before .before .before .before .before .before .before .before .before .before .before .before .before) .args .file .now))) ((c .before .before .before .before .before .before .before .before .before .before .before .before .before .before .before .before .before .before .before .before .before .before .before .before .before) .args .s) ((c .before .before .before .before .before .before .before .before .before .before .before .before .before .before .before .before .before .before .before .before .before .before .before .before .before) .pre .1 .1 .1 .0) ((c .before .before .before .before .before .before .before .before .before .before .before .before .before .before .before .before .before .before .before .before .before .before .before .before .before) .pre .1 .1 .1 .1 .2) .2, behind-seen (contextOf (read ((c .before .before .before .before .before .before .before .before .before .before .before .before .before .before .before .before .before .before .before .before .before .before .before .before .before) .args .file .now))) ((c .before .before .before .before .before .before .before .before .before .before .before .before .before .before .before .before .before .before .before .before .before .before .before .before .before) .args .s) ((c .before .before .before .before .before .before .before .before .before .before .before .before .before .before .before .before .before .before .before .before .before .before .before .before .before) .pre .1 .1 .1 .0) ((c .before .before .before .before .before .before .before .before .before .before .before .before .before .before .before .before .before .before .before .before .before .before .before .before .before) .pre .1 .1 .1 .1 .2), row-looks-most (contextOf (read ((c .before .before .before .before .before .before .before .before .before .before .before .before .before .before .before .before .before .before .before .before .before .before .before .before .before) .args .file .now))) ((c .before .before .before .before .before .before .before .before .before .before .before .before .before .before .before .before .before .before .before .before .before .before .before .before .before) .args .s) ((c .before .before .before .before .before .before .before .before .before .before .before .next-plan) .result) ((c .before .before .before .before .before .before .before .before .before .before .before .before .before .before .before .before .before .before .before .before .before .before .before .before .before) .pre .1 .1 .1 .0) (subst (SearchableRow ((c .before .before .before .before .before .before .before .before .before .before .before .before .before .before .before .before .before .before .before .before .before .before .before .before .before) .args .nodes .now) ((c .before .before .before .before .before .before .before .before .before .before .before .before .before .before .before .before .before .before .before .before .before .before .before .before .before) .args .w .next .0)) (sym (same-left (contextOf (read ((c .before .before .before .before .before .before .before .before .before .before .before .before .before .before .before .before .before .before .before .before .before .before .before .before .before) .args .file .now))) ((c .before .before .before .before .before .before .before .before .before .before .before .before .before .before .before .before .before .before .before .before .before .before .before .before .before) .args .s) ((c .before .before .before .before .before .before .before .before .before .before .before .before .before .before .before .before .before .before .before .before .before .before .before .before .before) .pre .1 .1 .1 .0) ((c .before .before .before .before .before .before .before .before .before .before .before .before .before .before .before .before .before .before .before .before .before .before .before .before .before) .pre .1 .1 .1 .1 .2) ((c .before .before .before .before .before .before .before .before .before .before .before .before .before .before .before .before .before .before .before .before .work-node) .result) ((c .before .before .before .before .before .before .before .before .before .before .before .before .before .before .before .before .before .before .before .before .work-node) .ensures) ((c .before .before .before .before .before .before .before .before .before .before .before .before .before .before .before .before .before .before .before .size) .result) ((c .before .before .before .before .before .before .before .before .before .before .before .before .before .before .before .before .before .before .before .size) .ensures .0))) (behind-row (contextOf (read ((c .before .before .before .before .before .before .before .before .before .before .before .before .before .before .before .before .before .before .before .before .before .before .before .before .before) .args .file .now))) ((c .before .before .before .before .before .before .before .before .before .before .before .before .before .before .before .before .before .before .before .before .before .before .before .before .before) .args .s) ((c .before .before .before .before .before .before .before .before .before .before .before .before .before .before .before .before .before .before .before .before .before .before .before .before .before) .pre .1 .1 .1 .0) ((c .before .before .before .before .before .before .before .before .before .before .before .before .before .before .before .before .before .before .before .before .before .before .before .before .before) .pre .1 .1 .1 .1 .2) .0)) ((c .before .before .before .before .before .before .before .before .before .walk-list) .ensures), (c .before .before .before .before .before .before .before .before .before .before .before .before .before .before .before .before .before .before .before .before .before .before .before .before .before) .good .1 .1 .0)))
+behind-child-walk-list-requires : (t : ℕ) → behind-child-lts.Need-walk-list-requires (work-node-reads.Asked, work-node-reads.Learnt, size-reads.Asked, size-reads.Learnt, link-plan-reads.Asked, link-plan-reads.Learnt, plan-behind-reads.Asked, plan-behind-reads.Learnt, is-passed-reads.Asked, is-passed-reads.Learnt, is-branches-reads.Asked, is-branches-reads.Learnt, walk-list-below t, walk-list.Post, either-reads.Asked, either-reads.Learnt, gathered-reads.Asked, gathered-reads.Learnt, of-answered-reads.Asked, of-answered-reads.Learnt, pass-row-reads.Asked, pass-row-reads.Learnt, stopped-reads.Asked, stopped-reads.Learnt, of-passed-reads.Asked, of-passed-reads.Learnt, next-plan-reads.Asked, next-plan-reads.Learnt) (behind-child-at t) behind-child.Post
+behind-child-walk-list-requires t c κs = (omega (arith, (c .before .before .before .before .before .before .before .before .before .before .before .before .before .before .before .before .before .before) .pre .0, behind-row (contextOf (read ((c .before .before .before .before .before .before .before .before .before .before .before .before .before .before .before .before .before .before) .args .file .now))) ((c .before .before .before .before .before .before .before .before .before .before .before .before .before .before .before .before .before .before) .args .s) ((c .before .before .before .before .before .before .before .before .before .before .before .before .before .before .before .before .before .before) .pre .1 .1 .1 .0) ((c .before .before .before .before .before .before .before .before .before .before .before .before .before .before .before .before .before .before) .pre .1 .1 .1 .1 .2) .1, ((c .before .before .before .before .before .before .before .before .before .before .before .before .before .before .before .before .before .before) .pre .1 .1 .1 .1 .2) .reaches .later, behind-room (contextOf (read ((c .before .before .before .before .before .before .before .before .before .before .before .before .before .before .before .before .before .before) .args .file .now))) ((c .before .before .before .before .before .before .before .before .before .before .before .before .before .before .before .before .before .before) .args .s) ((c .before .before .before .before .before .before .before .before .before .before .before .before .before .before .before .before .before .before) .pre .1 .1 .1 .0) ((c .before .before .before .before .before .before .before .before .before .before .before .before .before .before .before .before .before .before) .pre .1 .1 .1 .1 .2)), ((c .before .before .before .before .before .before .before .before .before .before .before .before .before .before .before .before .before .before) .pre .1 .0, ((c .before .before .before .before .before .before .before .before .before .before .before .before .before .before .before .before .before .before) .pre .1 .1 .0, ((subst (SearchableRow ((c .before .before .before .before .before .before .before .before .before .before .before .before .before .before .before .before .before .before) .args .nodes .now) ((c .before .before .before .before .before .before .before .before .before .before .before .before .before .before .before .before .before .before) .args .w .next .0)) (sym (same-left (contextOf (read ((c .before .before .before .before .before .before .before .before .before .before .before .before .before .before .before .before .before .before) .args .file .now))) ((c .before .before .before .before .before .before .before .before .before .before .before .before .before .before .before .before .before .before) .args .s) ((c .before .before .before .before .before .before .before .before .before .before .before .before .before .before .before .before .before .before) .pre .1 .1 .1 .0) ((c .before .before .before .before .before .before .before .before .before .before .before .before .before .before .before .before .before .before) .pre .1 .1 .1 .1 .2) ((c .before .before .before .before .before .before .before .before .before .before .before .before .before .work-node) .result) ((c .before .before .before .before .before .before .before .before .before .before .before .before .before .work-node) .ensures) ((c .before .before .before .before .before .before .before .before .before .before .before .before .size) .result) ((c .before .before .before .before .before .before .before .before .before .before .before .before .size) .ensures .0))) (behind-row (contextOf (read ((c .before .before .before .before .before .before .before .before .before .before .before .before .before .before .before .before .before .before) .args .file .now))) ((c .before .before .before .before .before .before .before .before .before .before .before .before .before .before .before .before .before .before) .args .s) ((c .before .before .before .before .before .before .before .before .before .before .before .before .before .before .before .before .before .before) .pre .1 .1 .1 .0) ((c .before .before .before .before .before .before .before .before .before .before .before .before .before .before .before .before .before .before) .pre .1 .1 .1 .1 .2) .0)), ((c .before .before .before .before .before .before .before .before .before .before .before .before .before .before .before .before .before .before) .pre .1 .1 .1 .0)))))
 
-behind-child-same-length-3 : (t : ℕ) → behind-child-lts.Need-same-length-3 (work-node-reads.Asked, work-node-reads.Learnt, size-reads.Asked, size-reads.Learnt, is-passed-reads.Asked, is-passed-reads.Learnt, pass-row-reads.Asked, pass-row-reads.Learnt, stopped-reads.Asked, stopped-reads.Learnt, gathered-reads.Asked, gathered-reads.Learnt, of-answered-reads.Asked, of-answered-reads.Learnt, of-passed-reads.Asked, of-passed-reads.Learnt, link-plan-reads.Asked, link-plan-reads.Learnt, next-plan-reads.Asked, next-plan-reads.Learnt, walk-list-below t, walk-list.Post) (behind-child-at t) behind-child.Post
+behind-child-either-requires : (t : ℕ) → behind-child-lts.Need-either-requires (work-node-reads.Asked, work-node-reads.Learnt, size-reads.Asked, size-reads.Learnt, link-plan-reads.Asked, link-plan-reads.Learnt, plan-behind-reads.Asked, plan-behind-reads.Learnt, is-passed-reads.Asked, is-passed-reads.Learnt, is-branches-reads.Asked, is-branches-reads.Learnt, walk-list-below t, walk-list.Post, either-reads.Asked, either-reads.Learnt, gathered-reads.Asked, gathered-reads.Learnt, of-answered-reads.Asked, of-answered-reads.Learnt, pass-row-reads.Asked, pass-row-reads.Learnt, stopped-reads.Asked, stopped-reads.Learnt, of-passed-reads.Asked, of-passed-reads.Learnt, next-plan-reads.Asked, next-plan-reads.Learnt) (behind-child-at t) behind-child.Post
+behind-child-either-requires t c κs = omega (arith, behind-row (contextOf (read ((c .before .before .before .before .before .before .before .before .before .before .before .before .before .before .before .before .before .before .before .before .before) .args .file .now))) ((c .before .before .before .before .before .before .before .before .before .before .before .before .before .before .before .before .before .before .before .before .before) .args .s) ((c .before .before .before .before .before .before .before .before .before .before .before .before .before .before .before .before .before .before .before .before .before) .pre .1 .1 .1 .0) ((c .before .before .before .before .before .before .before .before .before .before .before .before .before .before .before .before .before .before .before .before .before) .pre .1 .1 .1 .1 .2) .2, row-looks-most (contextOf (read ((c .before .before .before .before .before .before .before .before .before .before .before .before .before .before .before .before .before .before .before .before .before) .args .file .now))) ((c .before .before .before .before .before .before .before .before .before .before .before .before .before .before .before .before .before .before .before .before .before) .args .s) All ((c .before .before .before .before .before .before .before .before .before .before .before .before .before .before .before .before .before .before .before .before .before) .pre .1 .1 .1 .0) (subst (SearchableRow ((c .before .before .before .before .before .before .before .before .before .before .before .before .before .before .before .before .before .before .before .before .before) .args .nodes .now) ((c .before .before .before .before .before .before .before .before .before .before .before .before .before .before .before .before .before .before .before .before .before) .args .w .next .0)) (sym (same-left (contextOf (read ((c .before .before .before .before .before .before .before .before .before .before .before .before .before .before .before .before .before .before .before .before .before) .args .file .now))) ((c .before .before .before .before .before .before .before .before .before .before .before .before .before .before .before .before .before .before .before .before .before) .args .s) ((c .before .before .before .before .before .before .before .before .before .before .before .before .before .before .before .before .before .before .before .before .before) .pre .1 .1 .1 .0) ((c .before .before .before .before .before .before .before .before .before .before .before .before .before .before .before .before .before .before .before .before .before) .pre .1 .1 .1 .1 .2) ((c .before .before .before .before .before .before .before .before .before .before .before .before .before .before .before .before .work-node) .result) ((c .before .before .before .before .before .before .before .before .before .before .before .before .before .before .before .before .work-node) .ensures) ((c .before .before .before .before .before .before .before .before .before .before .before .before .before .before .before .size) .result) ((c .before .before .before .before .before .before .before .before .before .before .before .before .before .before .before .size) .ensures .0))) (behind-row (contextOf (read ((c .before .before .before .before .before .before .before .before .before .before .before .before .before .before .before .before .before .before .before .before .before) .args .file .now))) ((c .before .before .before .before .before .before .before .before .before .before .before .before .before .before .before .before .before .before .before .before .before) .args .s) ((c .before .before .before .before .before .before .before .before .before .before .before .before .before .before .before .before .before .before .before .before .before) .pre .1 .1 .1 .0) ((c .before .before .before .before .before .before .before .before .before .before .before .before .before .before .before .before .before .before .before .before .before) .pre .1 .1 .1 .1 .2) .0)) ((c .before .before .walk-list) .ensures), (c .before .before .before .before .before .before .before .before .before .before .before .before .before .before .before .before .before .before .before .before .before) .good .1 .1 .0)
+
+behind-child-gathered-requires : (t : ℕ) → behind-child-lts.Need-gathered-requires (work-node-reads.Asked, work-node-reads.Learnt, size-reads.Asked, size-reads.Learnt, link-plan-reads.Asked, link-plan-reads.Learnt, plan-behind-reads.Asked, plan-behind-reads.Learnt, is-passed-reads.Asked, is-passed-reads.Learnt, is-branches-reads.Asked, is-branches-reads.Learnt, walk-list-below t, walk-list.Post, either-reads.Asked, either-reads.Learnt, gathered-reads.Asked, gathered-reads.Learnt, of-answered-reads.Asked, of-answered-reads.Learnt, pass-row-reads.Asked, pass-row-reads.Learnt, stopped-reads.Asked, stopped-reads.Learnt, of-passed-reads.Asked, of-passed-reads.Learnt, next-plan-reads.Asked, next-plan-reads.Learnt) (behind-child-at t) behind-child.Post
+behind-child-gathered-requires t c κs = omega (arith, (c .either) .ensures .looks, behind-row (contextOf (read ((c .before .before .before .before .before .before .before .before .before .before .before .before .before .before .before .before .before .before .before .before .before .before) .args .file .now))) ((c .before .before .before .before .before .before .before .before .before .before .before .before .before .before .before .before .before .before .before .before .before .before) .args .s) ((c .before .before .before .before .before .before .before .before .before .before .before .before .before .before .before .before .before .before .before .before .before .before) .pre .1 .1 .1 .0) ((c .before .before .before .before .before .before .before .before .before .before .before .before .before .before .before .before .before .before .before .before .before .before) .pre .1 .1 .1 .1 .2) .2, behind-seen (contextOf (read ((c .before .before .before .before .before .before .before .before .before .before .before .before .before .before .before .before .before .before .before .before .before .before) .args .file .now))) ((c .before .before .before .before .before .before .before .before .before .before .before .before .before .before .before .before .before .before .before .before .before .before) .args .s) ((c .before .before .before .before .before .before .before .before .before .before .before .before .before .before .before .before .before .before .before .before .before .before) .pre .1 .1 .1 .0) ((c .before .before .before .before .before .before .before .before .before .before .before .before .before .before .before .before .before .before .before .before .before .before) .pre .1 .1 .1 .1 .2), row-looks-most (contextOf (read ((c .before .before .before .before .before .before .before .before .before .before .before .before .before .before .before .before .before .before .before .before .before .before) .args .file .now))) ((c .before .before .before .before .before .before .before .before .before .before .before .before .before .before .before .before .before .before .before .before .before .before) .args .s) All ((c .before .before .before .before .before .before .before .before .before .before .before .before .before .before .before .before .before .before .before .before .before .before) .pre .1 .1 .1 .0) (subst (SearchableRow ((c .before .before .before .before .before .before .before .before .before .before .before .before .before .before .before .before .before .before .before .before .before .before) .args .nodes .now) ((c .before .before .before .before .before .before .before .before .before .before .before .before .before .before .before .before .before .before .before .before .before .before) .args .w .next .0)) (sym (same-left (contextOf (read ((c .before .before .before .before .before .before .before .before .before .before .before .before .before .before .before .before .before .before .before .before .before .before) .args .file .now))) ((c .before .before .before .before .before .before .before .before .before .before .before .before .before .before .before .before .before .before .before .before .before .before) .args .s) ((c .before .before .before .before .before .before .before .before .before .before .before .before .before .before .before .before .before .before .before .before .before .before) .pre .1 .1 .1 .0) ((c .before .before .before .before .before .before .before .before .before .before .before .before .before .before .before .before .before .before .before .before .before .before) .pre .1 .1 .1 .1 .2) ((c .before .before .before .before .before .before .before .before .before .before .before .before .before .before .before .before .before .work-node) .result) ((c .before .before .before .before .before .before .before .before .before .before .before .before .before .before .before .before .before .work-node) .ensures) ((c .before .before .before .before .before .before .before .before .before .before .before .before .before .before .before .before .size) .result) ((c .before .before .before .before .before .before .before .before .before .before .before .before .before .before .before .before .size) .ensures .0))) (behind-row (contextOf (read ((c .before .before .before .before .before .before .before .before .before .before .before .before .before .before .before .before .before .before .before .before .before .before) .args .file .now))) ((c .before .before .before .before .before .before .before .before .before .before .before .before .before .before .before .before .before .before .before .before .before .before) .args .s) ((c .before .before .before .before .before .before .before .before .before .before .before .before .before .before .before .before .before .before .before .before .before .before) .pre .1 .1 .1 .0) ((c .before .before .before .before .before .before .before .before .before .before .before .before .before .before .before .before .before .before .before .before .before .before) .pre .1 .1 .1 .1 .2) .0)) ((c .before .before .before .walk-list) .ensures), (c .before .before .before .before .before .before .before .before .before .before .before .before .before .before .before .before .before .before .before .before .before .before) .good .1 .1 .0)
+
+behind-child-of-answered-requires : (t : ℕ) → behind-child-lts.Need-of-answered-requires (work-node-reads.Asked, work-node-reads.Learnt, size-reads.Asked, size-reads.Learnt, link-plan-reads.Asked, link-plan-reads.Learnt, plan-behind-reads.Asked, plan-behind-reads.Learnt, is-passed-reads.Asked, is-passed-reads.Learnt, is-branches-reads.Asked, is-branches-reads.Learnt, walk-list-below t, walk-list.Post, either-reads.Asked, either-reads.Learnt, gathered-reads.Asked, gathered-reads.Learnt, of-answered-reads.Asked, of-answered-reads.Learnt, pass-row-reads.Asked, pass-row-reads.Learnt, stopped-reads.Asked, stopped-reads.Learnt, of-passed-reads.Asked, of-passed-reads.Learnt, next-plan-reads.Asked, next-plan-reads.Learnt) (behind-child-at t) behind-child.Post
+behind-child-of-answered-requires t c κs = let e : (c .before .gathered) .result .looks ≡ (c .before .before .before .before .before .before .before .before .before .before .before .before .before .before .before .before .before .before .before .before .before .before .before .before) .args .b .looks + (c .before .before .either) .result .looks = ap (λ x. x .looks) ((c .before .gathered) .ensures) in (omega (arith, behind-room (contextOf (read ((c .before .before .before .before .before .before .before .before .before .before .before .before .before .before .before .before .before .before .before .before .before .before .before .before) .args .file .now))) ((c .before .before .before .before .before .before .before .before .before .before .before .before .before .before .before .before .before .before .before .before .before .before .before .before) .args .s) ((c .before .before .before .before .before .before .before .before .before .before .before .before .before .before .before .before .before .before .before .before .before .before .before .before) .pre .1 .1 .1 .0) ((c .before .before .before .before .before .before .before .before .before .before .before .before .before .before .before .before .before .before .before .before .before .before .before .before) .pre .1 .1 .1 .1 .2), (c .before .before .before .before .before .walk-list) .kept .1 .1 .0), omega (arith, e, (c .before .before .either) .ensures .looks, behind-row (contextOf (read ((c .before .before .before .before .before .before .before .before .before .before .before .before .before .before .before .before .before .before .before .before .before .before .before .before) .args .file .now))) ((c .before .before .before .before .before .before .before .before .before .before .before .before .before .before .before .before .before .before .before .before .before .before .before .before) .args .s) ((c .before .before .before .before .before .before .before .before .before .before .before .before .before .before .before .before .before .before .before .before .before .before .before .before) .pre .1 .1 .1 .0) ((c .before .before .before .before .before .before .before .before .before .before .before .before .before .before .before .before .before .before .before .before .before .before .before .before) .pre .1 .1 .1 .1 .2) .2, behind-seen (contextOf (read ((c .before .before .before .before .before .before .before .before .before .before .before .before .before .before .before .before .before .before .before .before .before .before .before .before) .args .file .now))) ((c .before .before .before .before .before .before .before .before .before .before .before .before .before .before .before .before .before .before .before .before .before .before .before .before) .args .s) ((c .before .before .before .before .before .before .before .before .before .before .before .before .before .before .before .before .before .before .before .before .before .before .before .before) .pre .1 .1 .1 .0) ((c .before .before .before .before .before .before .before .before .before .before .before .before .before .before .before .before .before .before .before .before .before .before .before .before) .pre .1 .1 .1 .1 .2), row-looks-most (contextOf (read ((c .before .before .before .before .before .before .before .before .before .before .before .before .before .before .before .before .before .before .before .before .before .before .before .before) .args .file .now))) ((c .before .before .before .before .before .before .before .before .before .before .before .before .before .before .before .before .before .before .before .before .before .before .before .before) .args .s) All ((c .before .before .before .before .before .before .before .before .before .before .before .before .before .before .before .before .before .before .before .before .before .before .before .before) .pre .1 .1 .1 .0) (subst (SearchableRow ((c .before .before .before .before .before .before .before .before .before .before .before .before .before .before .before .before .before .before .before .before .before .before .before .before) .args .nodes .now) ((c .before .before .before .before .before .before .before .before .before .before .before .before .before .before .before .before .before .before .before .before .before .before .before .before) .args .w .next .0)) (sym (same-left (contextOf (read ((c .before .before .before .before .before .before .before .before .before .before .before .before .before .before .before .before .before .before .before .before .before .before .before .before) .args .file .now))) ((c .before .before .before .before .before .before .before .before .before .before .before .before .before .before .before .before .before .before .before .before .before .before .before .before) .args .s) ((c .before .before .before .before .before .before .before .before .before .before .before .before .before .before .before .before .before .before .before .before .before .before .before .before) .pre .1 .1 .1 .0) ((c .before .before .before .before .before .before .before .before .before .before .before .before .before .before .before .before .before .before .before .before .before .before .before .before) .pre .1 .1 .1 .1 .2) ((c .before .before .before .before .before .before .before .before .before .before .before .before .before .before .before .before .before .before .before .work-node) .result) ((c .before .before .before .before .before .before .before .before .before .before .before .before .before .before .before .before .before .before .before .work-node) .ensures) ((c .before .before .before .before .before .before .before .before .before .before .before .before .before .before .before .before .before .before .size) .result) ((c .before .before .before .before .before .before .before .before .before .before .before .before .before .before .before .before .before .before .size) .ensures .0))) (behind-row (contextOf (read ((c .before .before .before .before .before .before .before .before .before .before .before .before .before .before .before .before .before .before .before .before .before .before .before .before) .args .file .now))) ((c .before .before .before .before .before .before .before .before .before .before .before .before .before .before .before .before .before .before .before .before .before .before .before .before) .args .s) ((c .before .before .before .before .before .before .before .before .before .before .before .before .before .before .before .before .before .before .before .before .before .before .before .before) .pre .1 .1 .1 .0) ((c .before .before .before .before .before .before .before .before .before .before .before .before .before .before .before .before .before .before .before .before .before .before .before .before) .pre .1 .1 .1 .1 .2) .0)) ((c .before .before .before .before .before .walk-list) .ensures), (c .before .before .before .before .before .before .before .before .before .before .before .before .before .before .before .before .before .before .before .before .before .before .before .before) .good .1 .1 .0))
+
+behind-child-same-length : (t : ℕ) → behind-child-lts.Need-same-length (work-node-reads.Asked, work-node-reads.Learnt, size-reads.Asked, size-reads.Learnt, link-plan-reads.Asked, link-plan-reads.Learnt, plan-behind-reads.Asked, plan-behind-reads.Learnt, is-passed-reads.Asked, is-passed-reads.Learnt, is-branches-reads.Asked, is-branches-reads.Learnt, walk-list-below t, walk-list.Post, either-reads.Asked, either-reads.Learnt, gathered-reads.Asked, gathered-reads.Learnt, of-answered-reads.Asked, of-answered-reads.Learnt, pass-row-reads.Asked, pass-row-reads.Learnt, stopped-reads.Asked, stopped-reads.Learnt, of-passed-reads.Asked, of-passed-reads.Learnt, next-plan-reads.Asked, next-plan-reads.Learnt) (behind-child-at t) behind-child.Post
+behind-child-same-length t c = search needs
+
+behind-child-returns : (t : ℕ) → behind-child-lts.Need-returns (work-node-reads.Asked, work-node-reads.Learnt, size-reads.Asked, size-reads.Learnt, link-plan-reads.Asked, link-plan-reads.Learnt, plan-behind-reads.Asked, plan-behind-reads.Learnt, is-passed-reads.Asked, is-passed-reads.Learnt, is-branches-reads.Asked, is-branches-reads.Learnt, walk-list-below t, walk-list.Post, either-reads.Asked, either-reads.Learnt, gathered-reads.Asked, gathered-reads.Learnt, of-answered-reads.Asked, of-answered-reads.Learnt, pass-row-reads.Asked, pass-row-reads.Learnt, stopped-reads.Asked, stopped-reads.Learnt, of-passed-reads.Asked, of-passed-reads.Learnt, next-plan-reads.Asked, next-plan-reads.Learnt) (behind-child-at t) behind-child.Post
+behind-child-returns t c = λ table₀ left g. child-behind (contextOf (read ((c .before .before .before .before .before .before .before .before .before .before .before .before .before .before .before .before .before .before .before .before .before .before .before .before .before .before .before) .args .file .now))) ((c .before .before .before .before .before .before .before .before .before .before .before .before .before .before .before .before .before .before .before .before .before .before .before .before .before .before .before) .args .s) ((c .before .before .before .before .before .before .before .before .before .before .before .before .before .before .before .before .before .before .before .before .before .before .before .before .before .before .before) .pre .1 .1 .1 .0) g ((c .before .before .before .before .before .before .before .before .before .before .before .before .before .before .before .before .before .before .before .before .before .before .work-node) .result) ((c .before .before .before .before .before .before .before .before .before .before .before .before .before .before .before .before .before .before .before .before .before .before .work-node) .ensures) (row-branches (contextOf (read ((c .before .before .before .before .before .before .before .before .before .before .before .before .before .before .before .before .before .before .before .before .before .before .before .before .before .before .before) .args .file .now))) ((c .before .before .before .before .before .before .before .before .before .before .before .before .before .before .before .before .before .before .before .before .before .before .before .before .before .before .before) .args .s) ((c .before .before .before .before .before .before .before .before .before .before .before .before .before .before .before .before .before .before .before .before .before .before .before .before .before .before .before) .pre .1 .1 .1 .0) g ((c .before .before .before .before .before .before .before .before .before .before .before .before .before .before .before .plan-behind) .result) ((c .before .before .before .before .before .before .before .before .before .before .before .before .before .before .before .plan-behind) .ensures ∙ ap (λ p. planBehind p ((c .before .before .before .before .before .before .before .before .before .before .before .before .before .before .before .before .before .before .before .before .before .before .before .before .before .before .before) .args .child .0 - (c .before .before .before .before .before .before .before .before .before .before .before .before .before .before .before .before .before .before .before .before .before .before .before .before .before .before .before) .args .b .link .0 - 1)) ((c .before .before .before .before .before .before .before .before .before .before .before .before .before .before .before .before .before .before .link-plan) .ensures) ∙ plan-was (contextOf (read ((c .before .before .before .before .before .before .before .before .before .before .before .before .before .before .before .before .before .before .before .before .before .before .before .before .before .before .before) .args .file .now))) ((c .before .before .before .before .before .before .before .before .before .before .before .before .before .before .before .before .before .before .before .before .before .before .before .before .before .before .before) .args .s) ((c .before .before .before .before .before .before .before .before .before .before .before .before .before .before .before .before .before .before .before .before .before .before .before .before .before .before .before) .pre .1 .1 .1 .0) g ((c .before .before .before .before .before .before .before .before .before .before .before .before .before .before .before .before .before .before .before .before .before .before .work-node) .result) ((c .before .before .before .before .before .before .before .before .before .before .before .before .before .before .before .before .before .before .before .before .before .before .work-node) .ensures)) ((c .before .before .before .before .before .before .before .before .before .before .before .before .before .before .before .before .before .before .before .before .before .size) .result + (c .before .before .before .before .before .before .before .before .before .before .before .before .before .before .before .before .before .before .before .before .before .before .before .before .before .before .before) .args .b .link .0 - (c .before .before .before .before .before .before .before .before .before .before .before .before .before .before .before .before .before .before .before .before .before .before .before .before .before .before .before) .args .child .0) (same-left (contextOf (read ((c .before .before .before .before .before .before .before .before .before .before .before .before .before .before .before .before .before .before .before .before .before .before .before .before .before .before .before) .args .file .now))) ((c .before .before .before .before .before .before .before .before .before .before .before .before .before .before .before .before .before .before .before .before .before .before .before .before .before .before .before) .args .s) ((c .before .before .before .before .before .before .before .before .before .before .before .before .before .before .before .before .before .before .before .before .before .before .before .before .before .before .before) .pre .1 .1 .1 .0) g ((c .before .before .before .before .before .before .before .before .before .before .before .before .before .before .before .before .before .before .before .before .before .before .work-node) .result) ((c .before .before .before .before .before .before .before .before .before .before .before .before .before .before .before .before .before .before .before .before .before .before .work-node) .ensures) ((c .before .before .before .before .before .before .before .before .before .before .before .before .before .before .before .before .before .before .before .before .before .size) .result) ((c .before .before .before .before .before .before .before .before .before .before .before .before .before .before .before .before .before .before .before .before .before .size) .ensures .0)) (sym ((c .before .before .before .before .before .before .before .before .before .before .before .before .before .is-passed) .ensures) ∙ not-true ((c .before .before .before .before .before .before .before .before .before .before .before .before .before .is-passed) .result) ((c .before .before .before .before .before .before .before .before .before .before .before .before .if1) .taken)) (sym ((c .before .before .before .before .before .before .before .before .before .before .before .is-branches) .ensures) ∙ (c .before .before .before .before .before .before .before .before .before .before .if2) .taken) ((c .before .before .before .before .before .before .before .before .walk-list) .ensures) ((c .before .before .before .before .before .either) .ensures) ((c .before .before .before .before .gathered) .ensures)) ((c .before .before .of-answered) .ensures .0 (ap (λ x. isPassed (x .answer)) ((c .before .before .before .before .gathered) .ensures) ∙ either-open ((c .before .before .before .before .before .before .before .before .before .before .before .before .before .before .before .before .before .before .before .before .before .before .before .before .before .before .before) .args .w) ((c .before .before .before .before .before .before .before .before .walk-list) .result) ((c .before .before .before .before .before .either) .result) ((c .before .before .before .before .before .either) .ensures)) (contextOf (read ((c .before .before .before .before .before .before .before .before .before .before .before .before .before .before .before .before .before .before .before .before .before .before .before .before .before .before .before) .args .file .now))) false ((c .before .before .before .before .before .before .before .before .before .before .before .before .before .before .before .before .before .before .before .before .before .before .before .before .before .before .before) .args .s))
+
+behind-child-pass-row-requires : (t : ℕ) → behind-child-lts.Need-pass-row-requires (work-node-reads.Asked, work-node-reads.Learnt, size-reads.Asked, size-reads.Learnt, link-plan-reads.Asked, link-plan-reads.Learnt, plan-behind-reads.Asked, plan-behind-reads.Learnt, is-passed-reads.Asked, is-passed-reads.Learnt, is-branches-reads.Asked, is-branches-reads.Learnt, walk-list-below t, walk-list.Post, either-reads.Asked, either-reads.Learnt, gathered-reads.Asked, gathered-reads.Learnt, of-answered-reads.Asked, of-answered-reads.Learnt, pass-row-reads.Asked, pass-row-reads.Learnt, stopped-reads.Asked, stopped-reads.Learnt, of-passed-reads.Asked, of-passed-reads.Learnt, next-plan-reads.Asked, next-plan-reads.Learnt) (behind-child-at t) behind-child.Post
+behind-child-pass-row-requires t c κs = row-stands (subst (SearchableRow ((c .before .before .before .before .before .before .before .before .before .before .before .before .before .before .before .before .before .before) .args .nodes .now) ((c .before .before .before .before .before .before .before .before .before .before .before .before .before .before .before .before .before .before) .args .w .next .0)) (sym (same-left (contextOf (read ((c .before .before .before .before .before .before .before .before .before .before .before .before .before .before .before .before .before .before) .args .file .now))) ((c .before .before .before .before .before .before .before .before .before .before .before .before .before .before .before .before .before .before) .args .s) ((c .before .before .before .before .before .before .before .before .before .before .before .before .before .before .before .before .before .before) .pre .1 .1 .1 .0) ((c .before .before .before .before .before .before .before .before .before .before .before .before .before .before .before .before .before .before) .pre .1 .1 .1 .1 .2) ((c .before .before .before .before .before .before .before .before .before .before .before .before .before .work-node) .result) ((c .before .before .before .before .before .before .before .before .before .before .before .before .before .work-node) .ensures) ((c .before .before .before .before .before .before .before .before .before .before .before .before .size) .result) ((c .before .before .before .before .before .before .before .before .before .before .before .before .size) .ensures .0))) (behind-row (contextOf (read ((c .before .before .before .before .before .before .before .before .before .before .before .before .before .before .before .before .before .before) .args .file .now))) ((c .before .before .before .before .before .before .before .before .before .before .before .before .before .before .before .before .before .before) .args .s) ((c .before .before .before .before .before .before .before .before .before .before .before .before .before .before .before .before .before .before) .pre .1 .1 .1 .0) ((c .before .before .before .before .before .before .before .before .before .before .before .before .before .before .before .before .before .before) .pre .1 .1 .1 .1 .2) .0))
+
+behind-child-stopped-requires : (t : ℕ) → behind-child-lts.Need-stopped-requires (work-node-reads.Asked, work-node-reads.Learnt, size-reads.Asked, size-reads.Learnt, link-plan-reads.Asked, link-plan-reads.Learnt, plan-behind-reads.Asked, plan-behind-reads.Learnt, is-passed-reads.Asked, is-passed-reads.Learnt, is-branches-reads.Asked, is-branches-reads.Learnt, walk-list-below t, walk-list.Post, either-reads.Asked, either-reads.Learnt, gathered-reads.Asked, gathered-reads.Learnt, of-answered-reads.Asked, of-answered-reads.Learnt, pass-row-reads.Asked, pass-row-reads.Learnt, stopped-reads.Asked, stopped-reads.Learnt, of-passed-reads.Asked, of-passed-reads.Learnt, next-plan-reads.Asked, next-plan-reads.Learnt) (behind-child-at t) behind-child.Post
+behind-child-stopped-requires t c κs = tt
+
+behind-child-gathered-requires-2 : (t : ℕ) → behind-child-lts.Need-gathered-requires-2 (work-node-reads.Asked, work-node-reads.Learnt, size-reads.Asked, size-reads.Learnt, link-plan-reads.Asked, link-plan-reads.Learnt, plan-behind-reads.Asked, plan-behind-reads.Learnt, is-passed-reads.Asked, is-passed-reads.Learnt, is-branches-reads.Asked, is-branches-reads.Learnt, walk-list-below t, walk-list.Post, either-reads.Asked, either-reads.Learnt, gathered-reads.Asked, gathered-reads.Learnt, of-answered-reads.Asked, of-answered-reads.Learnt, pass-row-reads.Asked, pass-row-reads.Learnt, stopped-reads.Asked, stopped-reads.Learnt, of-passed-reads.Asked, of-passed-reads.Learnt, next-plan-reads.Asked, next-plan-reads.Learnt) (behind-child-at t) behind-child.Post
+behind-child-gathered-requires-2 t c κs = let e : (c .stopped) .result .looks ≡ (c .before .before .before .before .before .before .before .before .before .before .before .before .before .before .before .before .before .before .before .before .before) .args .w .looks = ap (λ x. x .looks) ((c .stopped) .ensures) in omega (arith, e, behind-room (contextOf (read ((c .before .before .before .before .before .before .before .before .before .before .before .before .before .before .before .before .before .before .before .before .before) .args .file .now))) ((c .before .before .before .before .before .before .before .before .before .before .before .before .before .before .before .before .before .before .before .before .before) .args .s) ((c .before .before .before .before .before .before .before .before .before .before .before .before .before .before .before .before .before .before .before .before .before) .pre .1 .1 .1 .0) ((c .before .before .before .before .before .before .before .before .before .before .before .before .before .before .before .before .before .before .before .before .before) .pre .1 .1 .1 .1 .2), behind-seen (contextOf (read ((c .before .before .before .before .before .before .before .before .before .before .before .before .before .before .before .before .before .before .before .before .before) .args .file .now))) ((c .before .before .before .before .before .before .before .before .before .before .before .before .before .before .before .before .before .before .before .before .before) .args .s) ((c .before .before .before .before .before .before .before .before .before .before .before .before .before .before .before .before .before .before .before .before .before) .pre .1 .1 .1 .0) ((c .before .before .before .before .before .before .before .before .before .before .before .before .before .before .before .before .before .before .before .before .before) .pre .1 .1 .1 .1 .2), behind-looks (contextOf (read ((c .before .before .before .before .before .before .before .before .before .before .before .before .before .before .before .before .before .before .before .before .before) .args .file .now))) ((c .before .before .before .before .before .before .before .before .before .before .before .before .before .before .before .before .before .before .before .before .before) .args .s) ((c .before .before .before .before .before .before .before .before .before .before .before .before .before .before .before .before .before .before .before .before .before) .pre .1 .1 .1 .0) ((c .before .before .before .before .before .before .before .before .before .before .before .before .before .before .before .before .before .before .before .before .before) .pre .1 .1 .1 .1 .2), (c .before .before .before .before .before .before .before .before .before .before .before .before .before .before .before .before .before .before .before .before .before) .good .1 .1 .0)
+
+behind-child-of-answered-requires-2 : (t : ℕ) → behind-child-lts.Need-of-answered-requires-2 (work-node-reads.Asked, work-node-reads.Learnt, size-reads.Asked, size-reads.Learnt, link-plan-reads.Asked, link-plan-reads.Learnt, plan-behind-reads.Asked, plan-behind-reads.Learnt, is-passed-reads.Asked, is-passed-reads.Learnt, is-branches-reads.Asked, is-branches-reads.Learnt, walk-list-below t, walk-list.Post, either-reads.Asked, either-reads.Learnt, gathered-reads.Asked, gathered-reads.Learnt, of-answered-reads.Asked, of-answered-reads.Learnt, pass-row-reads.Asked, pass-row-reads.Learnt, stopped-reads.Asked, stopped-reads.Learnt, of-passed-reads.Asked, of-passed-reads.Learnt, next-plan-reads.Asked, next-plan-reads.Learnt) (behind-child-at t) behind-child.Post
+behind-child-of-answered-requires-2 t c κs = let e : (c .before .before .stopped) .result .looks ≡ (c .before .before .before .before .before .before .before .before .before .before .before .before .before .before .before .before .before .before .before .before .before .before .before) .args .w .looks = ap (λ x. x .looks) ((c .before .before .stopped) .ensures) in let f : (c .before .gathered2) .result .looks ≡ (c .before .before .before .before .before .before .before .before .before .before .before .before .before .before .before .before .before .before .before .before .before .before .before) .args .b .looks + (c .before .before .stopped) .result .looks = ap (λ x. x .looks) ((c .before .gathered2) .ensures) in (behind-room (contextOf (read ((c .before .before .before .before .before .before .before .before .before .before .before .before .before .before .before .before .before .before .before .before .before .before .before) .args .file .now))) ((c .before .before .before .before .before .before .before .before .before .before .before .before .before .before .before .before .before .before .before .before .before .before .before) .args .s) ((c .before .before .before .before .before .before .before .before .before .before .before .before .before .before .before .before .before .before .before .before .before .before .before) .pre .1 .1 .1 .0) ((c .before .before .before .before .before .before .before .before .before .before .before .before .before .before .before .before .before .before .before .before .before .before .before) .pre .1 .1 .1 .1 .2), omega (arith, e, f, behind-room (contextOf (read ((c .before .before .before .before .before .before .before .before .before .before .before .before .before .before .before .before .before .before .before .before .before .before .before) .args .file .now))) ((c .before .before .before .before .before .before .before .before .before .before .before .before .before .before .before .before .before .before .before .before .before .before .before) .args .s) ((c .before .before .before .before .before .before .before .before .before .before .before .before .before .before .before .before .before .before .before .before .before .before .before) .pre .1 .1 .1 .0) ((c .before .before .before .before .before .before .before .before .before .before .before .before .before .before .before .before .before .before .before .before .before .before .before) .pre .1 .1 .1 .1 .2), behind-seen (contextOf (read ((c .before .before .before .before .before .before .before .before .before .before .before .before .before .before .before .before .before .before .before .before .before .before .before) .args .file .now))) ((c .before .before .before .before .before .before .before .before .before .before .before .before .before .before .before .before .before .before .before .before .before .before .before) .args .s) ((c .before .before .before .before .before .before .before .before .before .before .before .before .before .before .before .before .before .before .before .before .before .before .before) .pre .1 .1 .1 .0) ((c .before .before .before .before .before .before .before .before .before .before .before .before .before .before .before .before .before .before .before .before .before .before .before) .pre .1 .1 .1 .1 .2), behind-looks (contextOf (read ((c .before .before .before .before .before .before .before .before .before .before .before .before .before .before .before .before .before .before .before .before .before .before .before) .args .file .now))) ((c .before .before .before .before .before .before .before .before .before .before .before .before .before .before .before .before .before .before .before .before .before .before .before) .args .s) ((c .before .before .before .before .before .before .before .before .before .before .before .before .before .before .before .before .before .before .before .before .before .before .before) .pre .1 .1 .1 .0) ((c .before .before .before .before .before .before .before .before .before .before .before .before .before .before .before .before .before .before .before .before .before .before .before) .pre .1 .1 .1 .1 .2), (c .before .before .before .before .before .before .before .before .before .before .before .before .before .before .before .before .before .before .before .before .before .before .before) .good .1 .1 .0))
+
+behind-child-same-length-2 : (t : ℕ) → behind-child-lts.Need-same-length-2 (work-node-reads.Asked, work-node-reads.Learnt, size-reads.Asked, size-reads.Learnt, link-plan-reads.Asked, link-plan-reads.Learnt, plan-behind-reads.Asked, plan-behind-reads.Learnt, is-passed-reads.Asked, is-passed-reads.Learnt, is-branches-reads.Asked, is-branches-reads.Learnt, walk-list-below t, walk-list.Post, either-reads.Asked, either-reads.Learnt, gathered-reads.Asked, gathered-reads.Learnt, of-answered-reads.Asked, of-answered-reads.Learnt, pass-row-reads.Asked, pass-row-reads.Learnt, stopped-reads.Asked, stopped-reads.Learnt, of-passed-reads.Asked, of-passed-reads.Learnt, next-plan-reads.Asked, next-plan-reads.Learnt) (behind-child-at t) behind-child.Post
+behind-child-same-length-2 t c = search needs
+
+behind-child-returns-2 : (t : ℕ) → behind-child-lts.Need-returns-2 (work-node-reads.Asked, work-node-reads.Learnt, size-reads.Asked, size-reads.Learnt, link-plan-reads.Asked, link-plan-reads.Learnt, plan-behind-reads.Asked, plan-behind-reads.Learnt, is-passed-reads.Asked, is-passed-reads.Learnt, is-branches-reads.Asked, is-branches-reads.Learnt, walk-list-below t, walk-list.Post, either-reads.Asked, either-reads.Learnt, gathered-reads.Asked, gathered-reads.Learnt, of-answered-reads.Asked, of-answered-reads.Learnt, pass-row-reads.Asked, pass-row-reads.Learnt, stopped-reads.Asked, stopped-reads.Learnt, of-passed-reads.Asked, of-passed-reads.Learnt, next-plan-reads.Asked, next-plan-reads.Learnt) (behind-child-at t) behind-child.Post
+behind-child-returns-2 t c = λ table₀ left g. child-behind (contextOf (read ((c .before .before .before .before .before .before .before .before .before .before .before .before .before .before .before .before .before .before .before .before .before .before .before .before .before .before) .args .file .now))) ((c .before .before .before .before .before .before .before .before .before .before .before .before .before .before .before .before .before .before .before .before .before .before .before .before .before .before) .args .s) ((c .before .before .before .before .before .before .before .before .before .before .before .before .before .before .before .before .before .before .before .before .before .before .before .before .before .before) .pre .1 .1 .1 .0) g ((c .before .before .before .before .before .before .before .before .before .before .before .before .before .before .before .before .before .before .before .before .before .work-node) .result) ((c .before .before .before .before .before .before .before .before .before .before .before .before .before .before .before .before .before .before .before .before .before .work-node) .ensures) (row-ended (contextOf (read ((c .before .before .before .before .before .before .before .before .before .before .before .before .before .before .before .before .before .before .before .before .before .before .before .before .before .before) .args .file .now))) ((c .before .before .before .before .before .before .before .before .before .before .before .before .before .before .before .before .before .before .before .before .before .before .before .before .before .before) .args .s) ((c .before .before .before .before .before .before .before .before .before .before .before .before .before .before .before .before .before .before .before .before .before .before .before .before .before .before) .pre .1 .1 .1 .0) g ((c .before .before .before .before .before .before .before .before .before .before .before .before .before .before .plan-behind) .result) ((c .before .before .before .before .before .before .before .before .before .before .before .before .before .before .plan-behind) .ensures ∙ ap (λ p. planBehind p ((c .before .before .before .before .before .before .before .before .before .before .before .before .before .before .before .before .before .before .before .before .before .before .before .before .before .before) .args .child .0 - (c .before .before .before .before .before .before .before .before .before .before .before .before .before .before .before .before .before .before .before .before .before .before .before .before .before .before) .args .b .link .0 - 1)) ((c .before .before .before .before .before .before .before .before .before .before .before .before .before .before .before .before .before .link-plan) .ensures) ∙ plan-was (contextOf (read ((c .before .before .before .before .before .before .before .before .before .before .before .before .before .before .before .before .before .before .before .before .before .before .before .before .before .before) .args .file .now))) ((c .before .before .before .before .before .before .before .before .before .before .before .before .before .before .before .before .before .before .before .before .before .before .before .before .before .before) .args .s) ((c .before .before .before .before .before .before .before .before .before .before .before .before .before .before .before .before .before .before .before .before .before .before .before .before .before .before) .pre .1 .1 .1 .0) g ((c .before .before .before .before .before .before .before .before .before .before .before .before .before .before .before .before .before .before .before .before .before .work-node) .result) ((c .before .before .before .before .before .before .before .before .before .before .before .before .before .before .before .before .before .before .before .before .before .work-node) .ensures)) ((c .before .before .before .before .before .stopped) .result) (sym ((c .before .before .before .before .before .before .before .before .before .before .before .before .is-passed) .ensures) ∙ not-true ((c .before .before .before .before .before .before .before .before .before .before .before .before .is-passed) .result) ((c .before .before .before .before .before .before .before .before .before .before .before .if1) .taken)) (sym ((c .before .before .before .before .before .before .before .before .before .before .is-branches) .ensures) ∙ (c .before .before .before .before .before .before .before .before .before .if2) .left) (subst (λ k. Passes ((c .before .before .before .before .before .before .before .before .before .before .before .before .before .before .before .before .before .before .before .before .before .before .before .before .before .before) .args .nodes .now) ((c .before .before .before .before .before .before .before .before .before .before .before .before .before .before .before .before .before .before .before .before .before .before .before .before .before .before) .args .w .next .0) k ((c .before .before .before .before .before .before .before .pass-row) .result .next .0) ((c .before .before .before .before .before .before .before .pass-row) .result .effect)) (same-left (contextOf (read ((c .before .before .before .before .before .before .before .before .before .before .before .before .before .before .before .before .before .before .before .before .before .before .before .before .before .before) .args .file .now))) ((c .before .before .before .before .before .before .before .before .before .before .before .before .before .before .before .before .before .before .before .before .before .before .before .before .before .before) .args .s) ((c .before .before .before .before .before .before .before .before .before .before .before .before .before .before .before .before .before .before .before .before .before .before .before .before .before .before) .pre .1 .1 .1 .0) g ((c .before .before .before .before .before .before .before .before .before .before .before .before .before .before .before .before .before .before .before .before .before .work-node) .result) ((c .before .before .before .before .before .before .before .before .before .before .before .before .before .before .before .before .before .before .before .before .before .work-node) .ensures) ((c .before .before .before .before .before .before .before .before .before .before .before .before .before .before .before .before .before .before .before .before .size) .result) ((c .before .before .before .before .before .before .before .before .before .before .before .before .before .before .before .before .before .before .before .before .size) .ensures .0)) ((c .before .before .before .before .before .before .before .pass-row) .ensures)) (ap (λ x. x .answer) ((c .before .before .before .before .before .stopped) .ensures)) (ap (λ x. x .next .0) ((c .before .before .before .before .before .stopped) .ensures)) (ap (λ x. x .looks) ((c .before .before .before .before .before .stopped) .ensures)) ((c .before .before .before .before .gathered2) .ensures)) ((c .before .before .of-answered2) .ensures .0 (ap (λ x. isPassed (x .answer)) ((c .before .before .before .before .gathered2) .ensures) ∙ ap (λ x. isPassed (x .answer)) ((c .before .before .before .before .before .stopped) .ensures)) (contextOf (read ((c .before .before .before .before .before .before .before .before .before .before .before .before .before .before .before .before .before .before .before .before .before .before .before .before .before .before) .args .file .now))) false ((c .before .before .before .before .before .before .before .before .before .before .before .before .before .before .before .before .before .before .before .before .before .before .before .before .before .before) .args .s))
+
+behind-child-gathered-requires-3 : (t : ℕ) → behind-child-lts.Need-gathered-requires-3 (work-node-reads.Asked, work-node-reads.Learnt, size-reads.Asked, size-reads.Learnt, link-plan-reads.Asked, link-plan-reads.Learnt, plan-behind-reads.Asked, plan-behind-reads.Learnt, is-passed-reads.Asked, is-passed-reads.Learnt, is-branches-reads.Asked, is-branches-reads.Learnt, walk-list-below t, walk-list.Post, either-reads.Asked, either-reads.Learnt, gathered-reads.Asked, gathered-reads.Learnt, of-answered-reads.Asked, of-answered-reads.Learnt, pass-row-reads.Asked, pass-row-reads.Learnt, stopped-reads.Asked, stopped-reads.Learnt, of-passed-reads.Asked, of-passed-reads.Learnt, next-plan-reads.Asked, next-plan-reads.Learnt) (behind-child-at t) behind-child.Post
+behind-child-gathered-requires-3 t c κs = omega (arith, behind-room (contextOf (read ((c .before .before .before .before .before .before .before .before .before .before .before .before .before .before .before .before) .args .file .now))) ((c .before .before .before .before .before .before .before .before .before .before .before .before .before .before .before .before) .args .s) ((c .before .before .before .before .before .before .before .before .before .before .before .before .before .before .before .before) .pre .1 .1 .1 .0) ((c .before .before .before .before .before .before .before .before .before .before .before .before .before .before .before .before) .pre .1 .1 .1 .1 .2), behind-seen (contextOf (read ((c .before .before .before .before .before .before .before .before .before .before .before .before .before .before .before .before) .args .file .now))) ((c .before .before .before .before .before .before .before .before .before .before .before .before .before .before .before .before) .args .s) ((c .before .before .before .before .before .before .before .before .before .before .before .before .before .before .before .before) .pre .1 .1 .1 .0) ((c .before .before .before .before .before .before .before .before .before .before .before .before .before .before .before .before) .pre .1 .1 .1 .1 .2), behind-looks (contextOf (read ((c .before .before .before .before .before .before .before .before .before .before .before .before .before .before .before .before) .args .file .now))) ((c .before .before .before .before .before .before .before .before .before .before .before .before .before .before .before .before) .args .s) ((c .before .before .before .before .before .before .before .before .before .before .before .before .before .before .before .before) .pre .1 .1 .1 .0) ((c .before .before .before .before .before .before .before .before .before .before .before .before .before .before .before .before) .pre .1 .1 .1 .1 .2), (c .before .before .before .before .before .before .before .before .before .before .before .before .before .before .before .before) .good .1 .1 .0)
+
+behind-child-of-passed-requires : (t : ℕ) → behind-child-lts.Need-of-passed-requires (work-node-reads.Asked, work-node-reads.Learnt, size-reads.Asked, size-reads.Learnt, link-plan-reads.Asked, link-plan-reads.Learnt, plan-behind-reads.Asked, plan-behind-reads.Learnt, is-passed-reads.Asked, is-passed-reads.Learnt, is-branches-reads.Asked, is-branches-reads.Learnt, walk-list-below t, walk-list.Post, either-reads.Asked, either-reads.Learnt, gathered-reads.Asked, gathered-reads.Learnt, of-answered-reads.Asked, of-answered-reads.Learnt, pass-row-reads.Asked, pass-row-reads.Learnt, stopped-reads.Asked, stopped-reads.Learnt, of-passed-reads.Asked, of-passed-reads.Learnt, next-plan-reads.Asked, next-plan-reads.Learnt) (behind-child-at t) behind-child.Post
+behind-child-of-passed-requires t c κs = let e : (c .gathered3) .result .looks ≡ (c .before .before .before .before .before .before .before .before .before .before .before .before .before .before .before .before .before) .args .b .looks + (c .before .before .before .before .before .before .before .before .before .before .before .before .before .before .before .before .before) .args .w .looks = ap (λ x. x .looks) ((c .gathered3) .ensures) in ((c .before .before .before .before .before .before .before .before .before .before .before .before .before .before .before .before .before) .pre .1 .0, ((c .before .before .before .before .before .before .before .before .before .before .before .before .before .before .before .before .before) .pre .1 .1 .0, omega (arith, e, behind-room (contextOf (read ((c .before .before .before .before .before .before .before .before .before .before .before .before .before .before .before .before .before) .args .file .now))) ((c .before .before .before .before .before .before .before .before .before .before .before .before .before .before .before .before .before) .args .s) ((c .before .before .before .before .before .before .before .before .before .before .before .before .before .before .before .before .before) .pre .1 .1 .1 .0) ((c .before .before .before .before .before .before .before .before .before .before .before .before .before .before .before .before .before) .pre .1 .1 .1 .1 .2), behind-seen (contextOf (read ((c .before .before .before .before .before .before .before .before .before .before .before .before .before .before .before .before .before) .args .file .now))) ((c .before .before .before .before .before .before .before .before .before .before .before .before .before .before .before .before .before) .args .s) ((c .before .before .before .before .before .before .before .before .before .before .before .before .before .before .before .before .before) .pre .1 .1 .1 .0) ((c .before .before .before .before .before .before .before .before .before .before .before .before .before .before .before .before .before) .pre .1 .1 .1 .1 .2), behind-looks (contextOf (read ((c .before .before .before .before .before .before .before .before .before .before .before .before .before .before .before .before .before) .args .file .now))) ((c .before .before .before .before .before .before .before .before .before .before .before .before .before .before .before .before .before) .args .s) ((c .before .before .before .before .before .before .before .before .before .before .before .before .before .before .before .before .before) .pre .1 .1 .1 .0) ((c .before .before .before .before .before .before .before .before .before .before .before .before .before .before .before .before .before) .pre .1 .1 .1 .1 .2), (c .before .before .before .before .before .before .before .before .before .before .before .before .before .before .before .before .before) .good .1 .1 .0)))
+
+behind-child-same-length-3 : (t : ℕ) → behind-child-lts.Need-same-length-3 (work-node-reads.Asked, work-node-reads.Learnt, size-reads.Asked, size-reads.Learnt, link-plan-reads.Asked, link-plan-reads.Learnt, plan-behind-reads.Asked, plan-behind-reads.Learnt, is-passed-reads.Asked, is-passed-reads.Learnt, is-branches-reads.Asked, is-branches-reads.Learnt, walk-list-below t, walk-list.Post, either-reads.Asked, either-reads.Learnt, gathered-reads.Asked, gathered-reads.Learnt, of-answered-reads.Asked, of-answered-reads.Learnt, pass-row-reads.Asked, pass-row-reads.Learnt, stopped-reads.Asked, stopped-reads.Learnt, of-passed-reads.Asked, of-passed-reads.Learnt, next-plan-reads.Asked, next-plan-reads.Learnt) (behind-child-at t) behind-child.Post
 behind-child-same-length-3 t c = search needs
 
-behind-child-returns-3 : (t : ℕ) → behind-child-lts.Need-returns-3 (work-node-reads.Asked, work-node-reads.Learnt, size-reads.Asked, size-reads.Learnt, is-passed-reads.Asked, is-passed-reads.Learnt, pass-row-reads.Asked, pass-row-reads.Learnt, stopped-reads.Asked, stopped-reads.Learnt, gathered-reads.Asked, gathered-reads.Learnt, of-answered-reads.Asked, of-answered-reads.Learnt, of-passed-reads.Asked, of-passed-reads.Learnt, link-plan-reads.Asked, link-plan-reads.Learnt, next-plan-reads.Asked, next-plan-reads.Learnt, walk-list-below t, walk-list.Post) (behind-child-at t) behind-child.Post
-behind-child-returns-3 t c = λ table₀ left g. child-behind (contextOf (read ((c .before .before .before .before .before .before .before .before .before .before .before .before .before .before .before .before .before .before .before .before .before .before .before .before .before .before) .args .file .now))) ((c .before .before .before .before .before .before .before .before .before .before .before .before .before .before .before .before .before .before .before .before .before .before .before .before .before .before) .args .s) ((c .before .before .before .before .before .before .before .before .before .before .before .before .before .before .before .before .before .before .before .before .before .before .before .before .before .before) .pre .1 .1 .1 .0) g ((c .before .before .before .before .before .before .before .before .before .before .before .before .before .before .before .before .before .before .before .before .before .work-node) .result) ((c .before .before .before .before .before .before .before .before .before .before .before .before .before .before .before .before .before .before .before .before .before .work-node) .ensures) (row-all (contextOf (read ((c .before .before .before .before .before .before .before .before .before .before .before .before .before .before .before .before .before .before .before .before .before .before .before .before .before .before) .args .file .now))) ((c .before .before .before .before .before .before .before .before .before .before .before .before .before .before .before .before .before .before .before .before .before .before .before .before .before .before) .args .s) ((c .before .before .before .before .before .before .before .before .before .before .before .before .before .before .before .before .before .before .before .before .before .before .before .before .before .before) .pre .1 .1 .1 .0) g ((c .before .before .before .before .before .before .before .before .before .before .before .before .before .before .before .before .before .before .before .before .before .work-node) .result) ((c .before .before .before .before .before .before .before .before .before .before .before .before .before .before .before .before .before .before .before .before .before .work-node) .ensures) ((c .before .before .before .before .before .before .before .before .before .before .before .before .before .before .before .before .before .before .before .before .size) .result + (c .before .before .before .before .before .before .before .before .before .before .before .before .before .before .before .before .before .before .before .before .before .before .before .before .before .before) .args .b .link .0 - (c .before .before .before .before .before .before .before .before .before .before .before .before .before .before .before .before .before .before .before .before .before .before .before .before .before .before) .args .child .0) (same-left (contextOf (read ((c .before .before .before .before .before .before .before .before .before .before .before .before .before .before .before .before .before .before .before .before .before .before .before .before .before .before) .args .file .now))) ((c .before .before .before .before .before .before .before .before .before .before .before .before .before .before .before .before .before .before .before .before .before .before .before .before .before .before) .args .s) ((c .before .before .before .before .before .before .before .before .before .before .before .before .before .before .before .before .before .before .before .before .before .before .before .before .before .before) .pre .1 .1 .1 .0) g ((c .before .before .before .before .before .before .before .before .before .before .before .before .before .before .before .before .before .before .before .before .before .work-node) .result) ((c .before .before .before .before .before .before .before .before .before .before .before .before .before .before .before .before .before .before .before .before .before .work-node) .ensures) ((c .before .before .before .before .before .before .before .before .before .before .before .before .before .before .before .before .before .before .before .before .size) .result) ((c .before .before .before .before .before .before .before .before .before .before .before .before .before .before .before .before .before .before .before .before .size) .ensures .0)) ((c .before .before .before .before .before .before .before .before .before .before .before .before .next-plan) .result) (sym ((c .before .before .before .before .before .before .before .before .before .before .before .before .before .before .before .before .is-passed) .ensures) ∙ not-false ((c .before .before .before .before .before .before .before .before .before .before .before .before .before .before .before .before .is-passed) .result) ((c .before .before .before .before .before .before .before .before .before .before .before .before .before .before .before .if1) .left)) ((c .before .before .before .before .before .before .before .before .before .before .before .before .next-plan) .ensures ∙ ap (λ p. nextPlan (planned p)) ((c .before .before .before .before .before .before .before .before .before .before .before .before .before .link-plan) .ensures)) ((c .before .before .before .before .before .before .before .before .before .before .walk-list) .ensures) ((c .before .before .before .gathered3) .ensures)) ((c .of-passed2) .ensures (ap (λ x. isPassed (x .answer)) ((c .before .before .before .gathered3) .ensures) ∙ sym ((c .before .before .is-passed2) .ensures) ∙ (c .before .if3) .taken) _ _)
+behind-child-returns-3 : (t : ℕ) → behind-child-lts.Need-returns-3 (work-node-reads.Asked, work-node-reads.Learnt, size-reads.Asked, size-reads.Learnt, link-plan-reads.Asked, link-plan-reads.Learnt, plan-behind-reads.Asked, plan-behind-reads.Learnt, is-passed-reads.Asked, is-passed-reads.Learnt, is-branches-reads.Asked, is-branches-reads.Learnt, walk-list-below t, walk-list.Post, either-reads.Asked, either-reads.Learnt, gathered-reads.Asked, gathered-reads.Learnt, of-answered-reads.Asked, of-answered-reads.Learnt, pass-row-reads.Asked, pass-row-reads.Learnt, stopped-reads.Asked, stopped-reads.Learnt, of-passed-reads.Asked, of-passed-reads.Learnt, next-plan-reads.Asked, next-plan-reads.Learnt) (behind-child-at t) behind-child.Post
+behind-child-returns-3 t c = λ table₀ left g. child-behind (contextOf (read ((c .before .before .before .before .before .before .before .before .before .before .before .before .before .before .before .before .before .before) .args .file .now))) ((c .before .before .before .before .before .before .before .before .before .before .before .before .before .before .before .before .before .before) .args .s) ((c .before .before .before .before .before .before .before .before .before .before .before .before .before .before .before .before .before .before) .pre .1 .1 .1 .0) g ((c .before .before .before .before .before .before .before .before .before .before .before .before .before .work-node) .result) ((c .before .before .before .before .before .before .before .before .before .before .before .before .before .work-node) .ensures) (row-last (contextOf (read ((c .before .before .before .before .before .before .before .before .before .before .before .before .before .before .before .before .before .before) .args .file .now))) ((c .before .before .before .before .before .before .before .before .before .before .before .before .before .before .before .before .before .before) .args .s) ((c .before .before .before .before .before .before .before .before .before .before .before .before .before .before .before .before .before .before) .pre .1 .1 .1 .0) g ((c .before .before .before .before .before .before .plan-behind) .result) ((c .before .before .before .before .before .before .plan-behind) .ensures ∙ ap (λ p. planBehind p ((c .before .before .before .before .before .before .before .before .before .before .before .before .before .before .before .before .before .before) .args .child .0 - (c .before .before .before .before .before .before .before .before .before .before .before .before .before .before .before .before .before .before) .args .b .link .0 - 1)) ((c .before .before .before .before .before .before .before .before .before .link-plan) .ensures) ∙ plan-was (contextOf (read ((c .before .before .before .before .before .before .before .before .before .before .before .before .before .before .before .before .before .before) .args .file .now))) ((c .before .before .before .before .before .before .before .before .before .before .before .before .before .before .before .before .before .before) .args .s) ((c .before .before .before .before .before .before .before .before .before .before .before .before .before .before .before .before .before .before) .pre .1 .1 .1 .0) g ((c .before .before .before .before .before .before .before .before .before .before .before .before .before .work-node) .result) ((c .before .before .before .before .before .before .before .before .before .before .before .before .before .work-node) .ensures)) (sym (same-left (contextOf (read ((c .before .before .before .before .before .before .before .before .before .before .before .before .before .before .before .before .before .before) .args .file .now))) ((c .before .before .before .before .before .before .before .before .before .before .before .before .before .before .before .before .before .before) .args .s) ((c .before .before .before .before .before .before .before .before .before .before .before .before .before .before .before .before .before .before) .pre .1 .1 .1 .0) g ((c .before .before .before .before .before .before .before .before .before .before .before .before .before .work-node) .result) ((c .before .before .before .before .before .before .before .before .before .before .before .before .before .work-node) .ensures) ((c .before .before .before .before .before .before .before .before .before .before .before .before .size) .result) ((c .before .before .before .before .before .before .before .before .before .before .before .before .size) .ensures .0)) ∙ (c .before .before .if3) .taken) ((c .before .gathered3) .ensures)) ((c .of-passed) .ensures (ap (λ x. isPassed (x .answer)) ((c .before .gathered3) .ensures) ∙ (sym ((c .before .before .before .before .is-passed) .ensures) ∙ not-false ((c .before .before .before .before .is-passed) .result) ((c .before .before .before .if1) .left))) ((c .before .before .before .before .before .before .before .before .before .before .before .before .before .before .before .before .before .before) .args .nodes .now) ((c .before .before .before .before .before .before .before .before .before .before .before .before .before .before .before .before .before .before) .args .b .link .0))
 
-behind-child-of-answered-requires-2 : (t : ℕ) → behind-child-lts.Need-of-answered-requires-2 (work-node-reads.Asked, work-node-reads.Learnt, size-reads.Asked, size-reads.Learnt, is-passed-reads.Asked, is-passed-reads.Learnt, pass-row-reads.Asked, pass-row-reads.Learnt, stopped-reads.Asked, stopped-reads.Learnt, gathered-reads.Asked, gathered-reads.Learnt, of-answered-reads.Asked, of-answered-reads.Learnt, of-passed-reads.Asked, of-passed-reads.Learnt, link-plan-reads.Asked, link-plan-reads.Learnt, next-plan-reads.Asked, next-plan-reads.Learnt, walk-list-below t, walk-list.Post) (behind-child-at t) behind-child.Post
-behind-child-of-answered-requires-2 t c κs = let e : (c .before .before .before .gathered3) .result .looks ≡ (c .before .before .before .before .before .before .before .before .before .before .before .before .before .before .before .before .before .before .before .before .before .before .before .before .before .before) .args .b .looks + (c .before .before .before .before .before .before .before .before .before .before .before .before .before .before .before .before .before .before .before .before .before .before .before .before .before .before) .args .w .looks + (c .before .before .before .before .before .before .before .before .before .before .walk-list) .result .looks = ap (λ x. x .looks) ((c .before .before .before .gathered3) .ensures) in (omega (arith, behind-room (contextOf (read ((c .before .before .before .before .before .before .before .before .before .before .before .before .before .before .before .before .before .before .before .before .before .before .before .before .before .before) .args .file .now))) ((c .before .before .before .before .before .before .before .before .before .before .before .before .before .before .before .before .before .before .before .before .before .before .before .before .before .before) .args .s) ((c .before .before .before .before .before .before .before .before .before .before .before .before .before .before .before .before .before .before .before .before .before .before .before .before .before .before) .pre .1 .1 .1 .0) ((c .before .before .before .before .before .before .before .before .before .before .before .before .before .before .before .before .before .before .before .before .before .before .before .before .before .before) .pre .1 .1 .1 .1 .2), (c .before .before .before .before .before .before .before .before .before .before .walk-list) .kept .1 .1 .0), omega (arith, e, behind-row (contextOf (read ((c .before .before .before .before .before .before .before .before .before .before .before .before .before .before .before .before .before .before .before .before .before .before .before .before .before .before) .args .file .now))) ((c .before .before .before .before .before .before .before .before .before .before .before .before .before .before .before .before .before .before .before .before .before .before .before .before .before .before) .args .s) ((c .before .before .before .before .before .before .before .before .before .before .before .before .before .before .before .before .before .before .before .before .before .before .before .before .before .before) .pre .1 .1 .1 .0) ((c .before .before .before .before .before .before .before .before .before .before .before .before .before .before .before .before .before .before .before .before .before .before .before .before .before .before) .pre .1 .1 .1 .1 .2) .2, behind-seen (contextOf (read ((c .before .before .before .before .before .before .before .before .before .before .before .before .before .before .before .before .before .before .before .before .before .before .before .before .before .before) .args .file .now))) ((c .before .before .before .before .before .before .before .before .before .before .before .before .before .before .before .before .before .before .before .before .before .before .before .before .before .before) .args .s) ((c .before .before .before .before .before .before .before .before .before .before .before .before .before .before .before .before .before .before .before .before .before .before .before .before .before .before) .pre .1 .1 .1 .0) ((c .before .before .before .before .before .before .before .before .before .before .before .before .before .before .before .before .before .before .before .before .before .before .before .before .before .before) .pre .1 .1 .1 .1 .2), row-looks-most (contextOf (read ((c .before .before .before .before .before .before .before .before .before .before .before .before .before .before .before .before .before .before .before .before .before .before .before .before .before .before) .args .file .now))) ((c .before .before .before .before .before .before .before .before .before .before .before .before .before .before .before .before .before .before .before .before .before .before .before .before .before .before) .args .s) ((c .before .before .before .before .before .before .before .before .before .before .before .before .next-plan) .result) ((c .before .before .before .before .before .before .before .before .before .before .before .before .before .before .before .before .before .before .before .before .before .before .before .before .before .before) .pre .1 .1 .1 .0) (subst (SearchableRow ((c .before .before .before .before .before .before .before .before .before .before .before .before .before .before .before .before .before .before .before .before .before .before .before .before .before .before) .args .nodes .now) ((c .before .before .before .before .before .before .before .before .before .before .before .before .before .before .before .before .before .before .before .before .before .before .before .before .before .before) .args .w .next .0)) (sym (same-left (contextOf (read ((c .before .before .before .before .before .before .before .before .before .before .before .before .before .before .before .before .before .before .before .before .before .before .before .before .before .before) .args .file .now))) ((c .before .before .before .before .before .before .before .before .before .before .before .before .before .before .before .before .before .before .before .before .before .before .before .before .before .before) .args .s) ((c .before .before .before .before .before .before .before .before .before .before .before .before .before .before .before .before .before .before .before .before .before .before .before .before .before .before) .pre .1 .1 .1 .0) ((c .before .before .before .before .before .before .before .before .before .before .before .before .before .before .before .before .before .before .before .before .before .before .before .before .before .before) .pre .1 .1 .1 .1 .2) ((c .before .before .before .before .before .before .before .before .before .before .before .before .before .before .before .before .before .before .before .before .before .work-node) .result) ((c .before .before .before .before .before .before .before .before .before .before .before .before .before .before .before .before .before .before .before .before .before .work-node) .ensures) ((c .before .before .before .before .before .before .before .before .before .before .before .before .before .before .before .before .before .before .before .before .size) .result) ((c .before .before .before .before .before .before .before .before .before .before .before .before .before .before .before .before .before .before .before .before .size) .ensures .0))) (behind-row (contextOf (read ((c .before .before .before .before .before .before .before .before .before .before .before .before .before .before .before .before .before .before .before .before .before .before .before .before .before .before) .args .file .now))) ((c .before .before .before .before .before .before .before .before .before .before .before .before .before .before .before .before .before .before .before .before .before .before .before .before .before .before) .args .s) ((c .before .before .before .before .before .before .before .before .before .before .before .before .before .before .before .before .before .before .before .before .before .before .before .before .before .before) .pre .1 .1 .1 .0) ((c .before .before .before .before .before .before .before .before .before .before .before .before .before .before .before .before .before .before .before .before .before .before .before .before .before .before) .pre .1 .1 .1 .1 .2) .0)) ((c .before .before .before .before .before .before .before .before .before .before .walk-list) .ensures), (c .before .before .before .before .before .before .before .before .before .before .before .before .before .before .before .before .before .before .before .before .before .before .before .before .before .before) .good .1 .1 .0))
+behind-child-next-plan-requires : (t : ℕ) → behind-child-lts.Need-next-plan-requires (work-node-reads.Asked, work-node-reads.Learnt, size-reads.Asked, size-reads.Learnt, link-plan-reads.Asked, link-plan-reads.Learnt, plan-behind-reads.Asked, plan-behind-reads.Learnt, is-passed-reads.Asked, is-passed-reads.Learnt, is-branches-reads.Asked, is-branches-reads.Learnt, walk-list-below t, walk-list.Post, either-reads.Asked, either-reads.Learnt, gathered-reads.Asked, gathered-reads.Learnt, of-answered-reads.Asked, of-answered-reads.Learnt, pass-row-reads.Asked, pass-row-reads.Learnt, stopped-reads.Asked, stopped-reads.Learnt, of-passed-reads.Asked, of-passed-reads.Learnt, next-plan-reads.Asked, next-plan-reads.Learnt) (behind-child-at t) behind-child.Post
+behind-child-next-plan-requires t c κs = tt
 
-behind-child-same-length-4 : (t : ℕ) → behind-child-lts.Need-same-length-4 (work-node-reads.Asked, work-node-reads.Learnt, size-reads.Asked, size-reads.Learnt, is-passed-reads.Asked, is-passed-reads.Learnt, pass-row-reads.Asked, pass-row-reads.Learnt, stopped-reads.Asked, stopped-reads.Learnt, gathered-reads.Asked, gathered-reads.Learnt, of-answered-reads.Asked, of-answered-reads.Learnt, of-passed-reads.Asked, of-passed-reads.Learnt, link-plan-reads.Asked, link-plan-reads.Learnt, next-plan-reads.Asked, next-plan-reads.Learnt, walk-list-below t, walk-list.Post) (behind-child-at t) behind-child.Post
+behind-child-walk-list-requires-2 : (t : ℕ) → behind-child-lts.Need-walk-list-requires-2 (work-node-reads.Asked, work-node-reads.Learnt, size-reads.Asked, size-reads.Learnt, link-plan-reads.Asked, link-plan-reads.Learnt, plan-behind-reads.Asked, plan-behind-reads.Learnt, is-passed-reads.Asked, is-passed-reads.Learnt, is-branches-reads.Asked, is-branches-reads.Learnt, walk-list-below t, walk-list.Post, either-reads.Asked, either-reads.Learnt, gathered-reads.Asked, gathered-reads.Learnt, of-answered-reads.Asked, of-answered-reads.Learnt, pass-row-reads.Asked, pass-row-reads.Learnt, stopped-reads.Asked, stopped-reads.Learnt, of-passed-reads.Asked, of-passed-reads.Learnt, next-plan-reads.Asked, next-plan-reads.Learnt) (behind-child-at t) behind-child.Post
+behind-child-walk-list-requires-2 t c κs = (omega (arith, (c .before .before .before .before .before .before .before .before .before .before .before .before .before .before .before .before .before .before) .pre .0, behind-row (contextOf (read ((c .before .before .before .before .before .before .before .before .before .before .before .before .before .before .before .before .before .before) .args .file .now))) ((c .before .before .before .before .before .before .before .before .before .before .before .before .before .before .before .before .before .before) .args .s) ((c .before .before .before .before .before .before .before .before .before .before .before .before .before .before .before .before .before .before) .pre .1 .1 .1 .0) ((c .before .before .before .before .before .before .before .before .before .before .before .before .before .before .before .before .before .before) .pre .1 .1 .1 .1 .2) .1, ((c .before .before .before .before .before .before .before .before .before .before .before .before .before .before .before .before .before .before) .pre .1 .1 .1 .1 .2) .reaches .later, behind-room (contextOf (read ((c .before .before .before .before .before .before .before .before .before .before .before .before .before .before .before .before .before .before) .args .file .now))) ((c .before .before .before .before .before .before .before .before .before .before .before .before .before .before .before .before .before .before) .args .s) ((c .before .before .before .before .before .before .before .before .before .before .before .before .before .before .before .before .before .before) .pre .1 .1 .1 .0) ((c .before .before .before .before .before .before .before .before .before .before .before .before .before .before .before .before .before .before) .pre .1 .1 .1 .1 .2)), ((c .before .before .before .before .before .before .before .before .before .before .before .before .before .before .before .before .before .before) .pre .1 .0, ((c .before .before .before .before .before .before .before .before .before .before .before .before .before .before .before .before .before .before) .pre .1 .1 .0, ((subst (SearchableRow ((c .before .before .before .before .before .before .before .before .before .before .before .before .before .before .before .before .before .before) .args .nodes .now) ((c .before .before .before .before .before .before .before .before .before .before .before .before .before .before .before .before .before .before) .args .w .next .0)) (sym (same-left (contextOf (read ((c .before .before .before .before .before .before .before .before .before .before .before .before .before .before .before .before .before .before) .args .file .now))) ((c .before .before .before .before .before .before .before .before .before .before .before .before .before .before .before .before .before .before) .args .s) ((c .before .before .before .before .before .before .before .before .before .before .before .before .before .before .before .before .before .before) .pre .1 .1 .1 .0) ((c .before .before .before .before .before .before .before .before .before .before .before .before .before .before .before .before .before .before) .pre .1 .1 .1 .1 .2) ((c .before .before .before .before .before .before .before .before .before .before .before .before .before .work-node) .result) ((c .before .before .before .before .before .before .before .before .before .before .before .before .before .work-node) .ensures) ((c .before .before .before .before .before .before .before .before .before .before .before .before .size) .result) ((c .before .before .before .before .before .before .before .before .before .before .before .before .size) .ensures .0))) (behind-row (contextOf (read ((c .before .before .before .before .before .before .before .before .before .before .before .before .before .before .before .before .before .before) .args .file .now))) ((c .before .before .before .before .before .before .before .before .before .before .before .before .before .before .before .before .before .before) .args .s) ((c .before .before .before .before .before .before .before .before .before .before .before .before .before .before .before .before .before .before) .pre .1 .1 .1 .0) ((c .before .before .before .before .before .before .before .before .before .before .before .before .before .before .before .before .before .before) .pre .1 .1 .1 .1 .2) .0)), ((c .before .before .before .before .before .before .before .before .before .before .before .before .before .before .before .before .before .before) .pre .1 .1 .1 .0)))))
+
+behind-child-add-gathered : (t : ℕ) → behind-child-lts.Need-add-gathered (work-node-reads.Asked, work-node-reads.Learnt, size-reads.Asked, size-reads.Learnt, link-plan-reads.Asked, link-plan-reads.Learnt, plan-behind-reads.Asked, plan-behind-reads.Learnt, is-passed-reads.Asked, is-passed-reads.Learnt, is-branches-reads.Asked, is-branches-reads.Learnt, walk-list-below t, walk-list.Post, either-reads.Asked, either-reads.Learnt, gathered-reads.Asked, gathered-reads.Learnt, of-answered-reads.Asked, of-answered-reads.Learnt, pass-row-reads.Asked, pass-row-reads.Learnt, stopped-reads.Asked, stopped-reads.Learnt, of-passed-reads.Asked, of-passed-reads.Learnt, next-plan-reads.Asked, next-plan-reads.Learnt) (behind-child-at t) behind-child.Post
+behind-child-add-gathered t c = omega (arith, behind-room (contextOf (read ((c .before .before .before .before .before .before .before .before .before .before .before .before .before .before .before .before .before .before .before .before .before .before .before .before .before) .args .file .now))) ((c .before .before .before .before .before .before .before .before .before .before .before .before .before .before .before .before .before .before .before .before .before .before .before .before .before) .args .s) ((c .before .before .before .before .before .before .before .before .before .before .before .before .before .before .before .before .before .before .before .before .before .before .before .before .before) .pre .1 .1 .1 .0) ((c .before .before .before .before .before .before .before .before .before .before .before .before .before .before .before .before .before .before .before .before .before .before .before .before .before) .pre .1 .1 .1 .1 .2), behind-seen (contextOf (read ((c .before .before .before .before .before .before .before .before .before .before .before .before .before .before .before .before .before .before .before .before .before .before .before .before .before) .args .file .now))) ((c .before .before .before .before .before .before .before .before .before .before .before .before .before .before .before .before .before .before .before .before .before .before .before .before .before) .args .s) ((c .before .before .before .before .before .before .before .before .before .before .before .before .before .before .before .before .before .before .before .before .before .before .before .before .before) .pre .1 .1 .1 .0) ((c .before .before .before .before .before .before .before .before .before .before .before .before .before .before .before .before .before .before .before .before .before .before .before .before .before) .pre .1 .1 .1 .1 .2), behind-looks (contextOf (read ((c .before .before .before .before .before .before .before .before .before .before .before .before .before .before .before .before .before .before .before .before .before .before .before .before .before) .args .file .now))) ((c .before .before .before .before .before .before .before .before .before .before .before .before .before .before .before .before .before .before .before .before .before .before .before .before .before) .args .s) ((c .before .before .before .before .before .before .before .before .before .before .before .before .before .before .before .before .before .before .before .before .before .before .before .before .before) .pre .1 .1 .1 .0) ((c .before .before .before .before .before .before .before .before .before .before .before .before .before .before .before .before .before .before .before .before .before .before .before .before .before) .pre .1 .1 .1 .1 .2), (c .before .before .before .before .before .before .before .before .before .before .before .before .before .before .before .before .before .before .before .before .before .before .before .before .before) .good .1 .1 .0)
+
+behind-child-gathered-requires-4 : (t : ℕ) → behind-child-lts.Need-gathered-requires-4 (work-node-reads.Asked, work-node-reads.Learnt, size-reads.Asked, size-reads.Learnt, link-plan-reads.Asked, link-plan-reads.Learnt, plan-behind-reads.Asked, plan-behind-reads.Learnt, is-passed-reads.Asked, is-passed-reads.Learnt, is-branches-reads.Asked, is-branches-reads.Learnt, walk-list-below t, walk-list.Post, either-reads.Asked, either-reads.Learnt, gathered-reads.Asked, gathered-reads.Learnt, of-answered-reads.Asked, of-answered-reads.Learnt, pass-row-reads.Asked, pass-row-reads.Learnt, stopped-reads.Asked, stopped-reads.Learnt, of-passed-reads.Asked, of-passed-reads.Learnt, next-plan-reads.Asked, next-plan-reads.Learnt) (behind-child-at t) behind-child.Post
+behind-child-gathered-requires-4 t c κs = omega (arith, behind-row (contextOf (read ((c .before .before .before .before .before .before .before .before .before .before .before .before .before .before .before .before .before .before .before .before .before .before .before .before .before) .args .file .now))) ((c .before .before .before .before .before .before .before .before .before .before .before .before .before .before .before .before .before .before .before .before .before .before .before .before .before) .args .s) ((c .before .before .before .before .before .before .before .before .before .before .before .before .before .before .before .before .before .before .before .before .before .before .before .before .before) .pre .1 .1 .1 .0) ((c .before .before .before .before .before .before .before .before .before .before .before .before .before .before .before .before .before .before .before .before .before .before .before .before .before) .pre .1 .1 .1 .1 .2) .2, behind-seen (contextOf (read ((c .before .before .before .before .before .before .before .before .before .before .before .before .before .before .before .before .before .before .before .before .before .before .before .before .before) .args .file .now))) ((c .before .before .before .before .before .before .before .before .before .before .before .before .before .before .before .before .before .before .before .before .before .before .before .before .before) .args .s) ((c .before .before .before .before .before .before .before .before .before .before .before .before .before .before .before .before .before .before .before .before .before .before .before .before .before) .pre .1 .1 .1 .0) ((c .before .before .before .before .before .before .before .before .before .before .before .before .before .before .before .before .before .before .before .before .before .before .before .before .before) .pre .1 .1 .1 .1 .2), row-looks-most (contextOf (read ((c .before .before .before .before .before .before .before .before .before .before .before .before .before .before .before .before .before .before .before .before .before .before .before .before .before) .args .file .now))) ((c .before .before .before .before .before .before .before .before .before .before .before .before .before .before .before .before .before .before .before .before .before .before .before .before .before) .args .s) ((c .before .before .before .before .before .before .before .before .next-plan) .result) ((c .before .before .before .before .before .before .before .before .before .before .before .before .before .before .before .before .before .before .before .before .before .before .before .before .before) .pre .1 .1 .1 .0) (subst (SearchableRow ((c .before .before .before .before .before .before .before .before .before .before .before .before .before .before .before .before .before .before .before .before .before .before .before .before .before) .args .nodes .now) ((c .before .before .before .before .before .before .before .before .before .before .before .before .before .before .before .before .before .before .before .before .before .before .before .before .before) .args .w .next .0)) (sym (same-left (contextOf (read ((c .before .before .before .before .before .before .before .before .before .before .before .before .before .before .before .before .before .before .before .before .before .before .before .before .before) .args .file .now))) ((c .before .before .before .before .before .before .before .before .before .before .before .before .before .before .before .before .before .before .before .before .before .before .before .before .before) .args .s) ((c .before .before .before .before .before .before .before .before .before .before .before .before .before .before .before .before .before .before .before .before .before .before .before .before .before) .pre .1 .1 .1 .0) ((c .before .before .before .before .before .before .before .before .before .before .before .before .before .before .before .before .before .before .before .before .before .before .before .before .before) .pre .1 .1 .1 .1 .2) ((c .before .before .before .before .before .before .before .before .before .before .before .before .before .before .before .before .before .before .before .before .work-node) .result) ((c .before .before .before .before .before .before .before .before .before .before .before .before .before .before .before .before .before .before .before .before .work-node) .ensures) ((c .before .before .before .before .before .before .before .before .before .before .before .before .before .before .before .before .before .before .before .size) .result) ((c .before .before .before .before .before .before .before .before .before .before .before .before .before .before .before .before .before .before .before .size) .ensures .0))) (behind-row (contextOf (read ((c .before .before .before .before .before .before .before .before .before .before .before .before .before .before .before .before .before .before .before .before .before .before .before .before .before) .args .file .now))) ((c .before .before .before .before .before .before .before .before .before .before .before .before .before .before .before .before .before .before .before .before .before .before .before .before .before) .args .s) ((c .before .before .before .before .before .before .before .before .before .before .before .before .before .before .before .before .before .before .before .before .before .before .before .before .before) .pre .1 .1 .1 .0) ((c .before .before .before .before .before .before .before .before .before .before .before .before .before .before .before .before .before .before .before .before .before .before .before .before .before) .pre .1 .1 .1 .1 .2) .0)) ((c .before .before .before .before .before .before .walk-list2) .ensures), (c .before .before .before .before .before .before .before .before .before .before .before .before .before .before .before .before .before .before .before .before .before .before .before .before .before) .good .1 .1 .0)
+
+behind-child-is-passed-requires-2 : (t : ℕ) → behind-child-lts.Need-is-passed-requires-2 (work-node-reads.Asked, work-node-reads.Learnt, size-reads.Asked, size-reads.Learnt, link-plan-reads.Asked, link-plan-reads.Learnt, plan-behind-reads.Asked, plan-behind-reads.Learnt, is-passed-reads.Asked, is-passed-reads.Learnt, is-branches-reads.Asked, is-branches-reads.Learnt, walk-list-below t, walk-list.Post, either-reads.Asked, either-reads.Learnt, gathered-reads.Asked, gathered-reads.Learnt, of-answered-reads.Asked, of-answered-reads.Learnt, pass-row-reads.Asked, pass-row-reads.Learnt, stopped-reads.Asked, stopped-reads.Learnt, of-passed-reads.Asked, of-passed-reads.Learnt, next-plan-reads.Asked, next-plan-reads.Learnt) (behind-child-at t) behind-child.Post
+behind-child-is-passed-requires-2 t c κs = tt
+
+behind-child-of-passed-requires-2 : (t : ℕ) → behind-child-lts.Need-of-passed-requires-2 (work-node-reads.Asked, work-node-reads.Learnt, size-reads.Asked, size-reads.Learnt, link-plan-reads.Asked, link-plan-reads.Learnt, plan-behind-reads.Asked, plan-behind-reads.Learnt, is-passed-reads.Asked, is-passed-reads.Learnt, is-branches-reads.Asked, is-branches-reads.Learnt, walk-list-below t, walk-list.Post, either-reads.Asked, either-reads.Learnt, gathered-reads.Asked, gathered-reads.Learnt, of-answered-reads.Asked, of-answered-reads.Learnt, pass-row-reads.Asked, pass-row-reads.Learnt, stopped-reads.Asked, stopped-reads.Learnt, of-passed-reads.Asked, of-passed-reads.Learnt, next-plan-reads.Asked, next-plan-reads.Learnt) (behind-child-at t) behind-child.Post
+behind-child-of-passed-requires-2 t c κs = let e : (c .before .before .gathered4) .result .looks ≡ (c .before .before .before .before .before .before .before .before .before .before .before .before .before .before .before .before .before .before .before .before .before .before .before .before .before .before .before .before) .args .b .looks + (c .before .before .before .before .before .before .before .before .before .before .before .before .before .before .before .before .before .before .before .before .before .before .before .before .before .before .before .before) .args .w .looks + (c .before .before .before .before .before .before .before .before .before .walk-list2) .result .looks = ap (λ x. x .looks) ((c .before .before .gathered4) .ensures) in ((c .before .before .before .before .before .before .before .before .before .before .before .before .before .before .before .before .before .before .before .before .before .before .before .before .before .before .before .before) .pre .1 .0, ((c .before .before .before .before .before .before .before .before .before .before .before .before .before .before .before .before .before .before .before .before .before .before .before .before .before .before .before .before) .pre .1 .1 .0, omega (arith, e, behind-row (contextOf (read ((c .before .before .before .before .before .before .before .before .before .before .before .before .before .before .before .before .before .before .before .before .before .before .before .before .before .before .before .before) .args .file .now))) ((c .before .before .before .before .before .before .before .before .before .before .before .before .before .before .before .before .before .before .before .before .before .before .before .before .before .before .before .before) .args .s) ((c .before .before .before .before .before .before .before .before .before .before .before .before .before .before .before .before .before .before .before .before .before .before .before .before .before .before .before .before) .pre .1 .1 .1 .0) ((c .before .before .before .before .before .before .before .before .before .before .before .before .before .before .before .before .before .before .before .before .before .before .before .before .before .before .before .before) .pre .1 .1 .1 .1 .2) .2, behind-seen (contextOf (read ((c .before .before .before .before .before .before .before .before .before .before .before .before .before .before .before .before .before .before .before .before .before .before .before .before .before .before .before .before) .args .file .now))) ((c .before .before .before .before .before .before .before .before .before .before .before .before .before .before .before .before .before .before .before .before .before .before .before .before .before .before .before .before) .args .s) ((c .before .before .before .before .before .before .before .before .before .before .before .before .before .before .before .before .before .before .before .before .before .before .before .before .before .before .before .before) .pre .1 .1 .1 .0) ((c .before .before .before .before .before .before .before .before .before .before .before .before .before .before .before .before .before .before .before .before .before .before .before .before .before .before .before .before) .pre .1 .1 .1 .1 .2), row-looks-most (contextOf (read ((c .before .before .before .before .before .before .before .before .before .before .before .before .before .before .before .before .before .before .before .before .before .before .before .before .before .before .before .before) .args .file .now))) ((c .before .before .before .before .before .before .before .before .before .before .before .before .before .before .before .before .before .before .before .before .before .before .before .before .before .before .before .before) .args .s) ((c .before .before .before .before .before .before .before .before .before .before .before .next-plan) .result) ((c .before .before .before .before .before .before .before .before .before .before .before .before .before .before .before .before .before .before .before .before .before .before .before .before .before .before .before .before) .pre .1 .1 .1 .0) (subst (SearchableRow ((c .before .before .before .before .before .before .before .before .before .before .before .before .before .before .before .before .before .before .before .before .before .before .before .before .before .before .before .before) .args .nodes .now) ((c .before .before .before .before .before .before .before .before .before .before .before .before .before .before .before .before .before .before .before .before .before .before .before .before .before .before .before .before) .args .w .next .0)) (sym (same-left (contextOf (read ((c .before .before .before .before .before .before .before .before .before .before .before .before .before .before .before .before .before .before .before .before .before .before .before .before .before .before .before .before) .args .file .now))) ((c .before .before .before .before .before .before .before .before .before .before .before .before .before .before .before .before .before .before .before .before .before .before .before .before .before .before .before .before) .args .s) ((c .before .before .before .before .before .before .before .before .before .before .before .before .before .before .before .before .before .before .before .before .before .before .before .before .before .before .before .before) .pre .1 .1 .1 .0) ((c .before .before .before .before .before .before .before .before .before .before .before .before .before .before .before .before .before .before .before .before .before .before .before .before .before .before .before .before) .pre .1 .1 .1 .1 .2) ((c .before .before .before .before .before .before .before .before .before .before .before .before .before .before .before .before .before .before .before .before .before .before .before .work-node) .result) ((c .before .before .before .before .before .before .before .before .before .before .before .before .before .before .before .before .before .before .before .before .before .before .before .work-node) .ensures) ((c .before .before .before .before .before .before .before .before .before .before .before .before .before .before .before .before .before .before .before .before .before .before .size) .result) ((c .before .before .before .before .before .before .before .before .before .before .before .before .before .before .before .before .before .before .before .before .before .before .size) .ensures .0))) (behind-row (contextOf (read ((c .before .before .before .before .before .before .before .before .before .before .before .before .before .before .before .before .before .before .before .before .before .before .before .before .before .before .before .before) .args .file .now))) ((c .before .before .before .before .before .before .before .before .before .before .before .before .before .before .before .before .before .before .before .before .before .before .before .before .before .before .before .before) .args .s) ((c .before .before .before .before .before .before .before .before .before .before .before .before .before .before .before .before .before .before .before .before .before .before .before .before .before .before .before .before) .pre .1 .1 .1 .0) ((c .before .before .before .before .before .before .before .before .before .before .before .before .before .before .before .before .before .before .before .before .before .before .before .before .before .before .before .before) .pre .1 .1 .1 .1 .2) .0)) ((c .before .before .before .before .before .before .before .before .before .walk-list2) .ensures), (c .before .before .before .before .before .before .before .before .before .before .before .before .before .before .before .before .before .before .before .before .before .before .before .before .before .before .before .before) .good .1 .1 .0)))
+
+behind-child-same-length-4 : (t : ℕ) → behind-child-lts.Need-same-length-4 (work-node-reads.Asked, work-node-reads.Learnt, size-reads.Asked, size-reads.Learnt, link-plan-reads.Asked, link-plan-reads.Learnt, plan-behind-reads.Asked, plan-behind-reads.Learnt, is-passed-reads.Asked, is-passed-reads.Learnt, is-branches-reads.Asked, is-branches-reads.Learnt, walk-list-below t, walk-list.Post, either-reads.Asked, either-reads.Learnt, gathered-reads.Asked, gathered-reads.Learnt, of-answered-reads.Asked, of-answered-reads.Learnt, pass-row-reads.Asked, pass-row-reads.Learnt, stopped-reads.Asked, stopped-reads.Learnt, of-passed-reads.Asked, of-passed-reads.Learnt, next-plan-reads.Asked, next-plan-reads.Learnt) (behind-child-at t) behind-child.Post
 behind-child-same-length-4 t c = search needs
 
-behind-child-returns-4 : (t : ℕ) → behind-child-lts.Need-returns-4 (work-node-reads.Asked, work-node-reads.Learnt, size-reads.Asked, size-reads.Learnt, is-passed-reads.Asked, is-passed-reads.Learnt, pass-row-reads.Asked, pass-row-reads.Learnt, stopped-reads.Asked, stopped-reads.Learnt, gathered-reads.Asked, gathered-reads.Learnt, of-answered-reads.Asked, of-answered-reads.Learnt, of-passed-reads.Asked, of-passed-reads.Learnt, link-plan-reads.Asked, link-plan-reads.Learnt, next-plan-reads.Asked, next-plan-reads.Learnt, walk-list-below t, walk-list.Post) (behind-child-at t) behind-child.Post
-behind-child-returns-4 t c = λ table₀ left g. child-behind (contextOf (read ((c .before .before .before .before .before .before .before .before .before .before .before .before .before .before .before .before .before .before .before .before .before .before .before .before .before .before .before .before .before) .args .file .now))) ((c .before .before .before .before .before .before .before .before .before .before .before .before .before .before .before .before .before .before .before .before .before .before .before .before .before .before .before .before .before) .args .s) ((c .before .before .before .before .before .before .before .before .before .before .before .before .before .before .before .before .before .before .before .before .before .before .before .before .before .before .before .before .before) .pre .1 .1 .1 .0) g ((c .before .before .before .before .before .before .before .before .before .before .before .before .before .before .before .before .before .before .before .before .before .before .before .before .work-node) .result) ((c .before .before .before .before .before .before .before .before .before .before .before .before .before .before .before .before .before .before .before .before .before .before .before .before .work-node) .ensures) (row-all (contextOf (read ((c .before .before .before .before .before .before .before .before .before .before .before .before .before .before .before .before .before .before .before .before .before .before .before .before .before .before .before .before .before) .args .file .now))) ((c .before .before .before .before .before .before .before .before .before .before .before .before .before .before .before .before .before .before .before .before .before .before .before .before .before .before .before .before .before) .args .s) ((c .before .before .before .before .before .before .before .before .before .before .before .before .before .before .before .before .before .before .before .before .before .before .before .before .before .before .before .before .before) .pre .1 .1 .1 .0) g ((c .before .before .before .before .before .before .before .before .before .before .before .before .before .before .before .before .before .before .before .before .before .before .before .before .work-node) .result) ((c .before .before .before .before .before .before .before .before .before .before .before .before .before .before .before .before .before .before .before .before .before .before .before .before .work-node) .ensures) ((c .before .before .before .before .before .before .before .before .before .before .before .before .before .before .before .before .before .before .before .before .before .before .before .size) .result + (c .before .before .before .before .before .before .before .before .before .before .before .before .before .before .before .before .before .before .before .before .before .before .before .before .before .before .before .before .before) .args .b .link .0 - (c .before .before .before .before .before .before .before .before .before .before .before .before .before .before .before .before .before .before .before .before .before .before .before .before .before .before .before .before .before) .args .child .0) (same-left (contextOf (read ((c .before .before .before .before .before .before .before .before .before .before .before .before .before .before .before .before .before .before .before .before .before .before .before .before .before .before .before .before .before) .args .file .now))) ((c .before .before .before .before .before .before .before .before .before .before .before .before .before .before .before .before .before .before .before .before .before .before .before .before .before .before .before .before .before) .args .s) ((c .before .before .before .before .before .before .before .before .before .before .before .before .before .before .before .before .before .before .before .before .before .before .before .before .before .before .before .before .before) .pre .1 .1 .1 .0) g ((c .before .before .before .before .before .before .before .before .before .before .before .before .before .before .before .before .before .before .before .before .before .before .before .before .work-node) .result) ((c .before .before .before .before .before .before .before .before .before .before .before .before .before .before .before .before .before .before .before .before .before .before .before .before .work-node) .ensures) ((c .before .before .before .before .before .before .before .before .before .before .before .before .before .before .before .before .before .before .before .before .before .before .before .size) .result) ((c .before .before .before .before .before .before .before .before .before .before .before .before .before .before .before .before .before .before .before .before .before .before .before .size) .ensures .0)) ((c .before .before .before .before .before .before .before .before .before .before .before .before .before .before .before .next-plan) .result) (sym ((c .before .before .before .before .before .before .before .before .before .before .before .before .before .before .before .before .before .before .before .is-passed) .ensures) ∙ not-false ((c .before .before .before .before .before .before .before .before .before .before .before .before .before .before .before .before .before .before .before .is-passed) .result) ((c .before .before .before .before .before .before .before .before .before .before .before .before .before .before .before .before .before .before .if1) .left)) ((c .before .before .before .before .before .before .before .before .before .before .before .before .before .before .before .next-plan) .ensures ∙ ap (λ p. nextPlan (planned p)) ((c .before .before .before .before .before .before .before .before .before .before .before .before .before .before .before .before .link-plan) .ensures)) ((c .before .before .before .before .before .before .before .before .before .before .before .before .before .walk-list) .ensures) ((c .before .before .before .before .before .before .gathered3) .ensures)) ((c .before .before .of-answered2) .ensures .0 (ap (λ x. isPassed (x .answer)) ((c .before .before .before .before .before .before .gathered3) .ensures) ∙ sym ((c .before .before .before .before .before .is-passed2) .ensures) ∙ (c .before .before .before .before .if3) .left) (contextOf (read ((c .before .before .before .before .before .before .before .before .before .before .before .before .before .before .before .before .before .before .before .before .before .before .before .before .before .before .before .before .before) .args .file .now))) false ((c .before .before .before .before .before .before .before .before .before .before .before .before .before .before .before .before .before .before .before .before .before .before .before .before .before .before .before .before .before) .args .s))
+behind-child-returns-4 : (t : ℕ) → behind-child-lts.Need-returns-4 (work-node-reads.Asked, work-node-reads.Learnt, size-reads.Asked, size-reads.Learnt, link-plan-reads.Asked, link-plan-reads.Learnt, plan-behind-reads.Asked, plan-behind-reads.Learnt, is-passed-reads.Asked, is-passed-reads.Learnt, is-branches-reads.Asked, is-branches-reads.Learnt, walk-list-below t, walk-list.Post, either-reads.Asked, either-reads.Learnt, gathered-reads.Asked, gathered-reads.Learnt, of-answered-reads.Asked, of-answered-reads.Learnt, pass-row-reads.Asked, pass-row-reads.Learnt, stopped-reads.Asked, stopped-reads.Learnt, of-passed-reads.Asked, of-passed-reads.Learnt, next-plan-reads.Asked, next-plan-reads.Learnt) (behind-child-at t) behind-child.Post
+behind-child-returns-4 t c = λ table₀ left g. child-behind (contextOf (read ((c .before .before .before .before .before .before .before .before .before .before .before .before .before .before .before .before .before .before .before .before .before .before .before .before .before .before .before .before .before) .args .file .now))) ((c .before .before .before .before .before .before .before .before .before .before .before .before .before .before .before .before .before .before .before .before .before .before .before .before .before .before .before .before .before) .args .s) ((c .before .before .before .before .before .before .before .before .before .before .before .before .before .before .before .before .before .before .before .before .before .before .before .before .before .before .before .before .before) .pre .1 .1 .1 .0) g ((c .before .before .before .before .before .before .before .before .before .before .before .before .before .before .before .before .before .before .before .before .before .before .before .before .work-node) .result) ((c .before .before .before .before .before .before .before .before .before .before .before .before .before .before .before .before .before .before .before .before .before .before .before .before .work-node) .ensures) (row-all (contextOf (read ((c .before .before .before .before .before .before .before .before .before .before .before .before .before .before .before .before .before .before .before .before .before .before .before .before .before .before .before .before .before) .args .file .now))) ((c .before .before .before .before .before .before .before .before .before .before .before .before .before .before .before .before .before .before .before .before .before .before .before .before .before .before .before .before .before) .args .s) ((c .before .before .before .before .before .before .before .before .before .before .before .before .before .before .before .before .before .before .before .before .before .before .before .before .before .before .before .before .before) .pre .1 .1 .1 .0) g ((c .before .before .before .before .before .before .before .before .before .before .before .before .before .before .before .before .before .plan-behind) .result) ((c .before .before .before .before .before .before .before .before .before .before .before .before .before .before .before .before .before .plan-behind) .ensures ∙ ap (λ p. planBehind p ((c .before .before .before .before .before .before .before .before .before .before .before .before .before .before .before .before .before .before .before .before .before .before .before .before .before .before .before .before .before) .args .child .0 - (c .before .before .before .before .before .before .before .before .before .before .before .before .before .before .before .before .before .before .before .before .before .before .before .before .before .before .before .before .before) .args .b .link .0 - 1)) ((c .before .before .before .before .before .before .before .before .before .before .before .before .before .before .before .before .before .before .before .before .link-plan) .ensures) ∙ plan-was (contextOf (read ((c .before .before .before .before .before .before .before .before .before .before .before .before .before .before .before .before .before .before .before .before .before .before .before .before .before .before .before .before .before) .args .file .now))) ((c .before .before .before .before .before .before .before .before .before .before .before .before .before .before .before .before .before .before .before .before .before .before .before .before .before .before .before .before .before) .args .s) ((c .before .before .before .before .before .before .before .before .before .before .before .before .before .before .before .before .before .before .before .before .before .before .before .before .before .before .before .before .before) .pre .1 .1 .1 .0) g ((c .before .before .before .before .before .before .before .before .before .before .before .before .before .before .before .before .before .before .before .before .before .before .before .before .work-node) .result) ((c .before .before .before .before .before .before .before .before .before .before .before .before .before .before .before .before .before .before .before .before .before .before .before .before .work-node) .ensures)) ((c .before .before .before .before .before .before .before .before .before .before .before .before .before .before .before .before .before .before .before .before .before .before .before .size) .result + (c .before .before .before .before .before .before .before .before .before .before .before .before .before .before .before .before .before .before .before .before .before .before .before .before .before .before .before .before .before) .args .b .link .0 - (c .before .before .before .before .before .before .before .before .before .before .before .before .before .before .before .before .before .before .before .before .before .before .before .before .before .before .before .before .before) .args .child .0) (same-left (contextOf (read ((c .before .before .before .before .before .before .before .before .before .before .before .before .before .before .before .before .before .before .before .before .before .before .before .before .before .before .before .before .before) .args .file .now))) ((c .before .before .before .before .before .before .before .before .before .before .before .before .before .before .before .before .before .before .before .before .before .before .before .before .before .before .before .before .before) .args .s) ((c .before .before .before .before .before .before .before .before .before .before .before .before .before .before .before .before .before .before .before .before .before .before .before .before .before .before .before .before .before) .pre .1 .1 .1 .0) g ((c .before .before .before .before .before .before .before .before .before .before .before .before .before .before .before .before .before .before .before .before .before .before .before .before .work-node) .result) ((c .before .before .before .before .before .before .before .before .before .before .before .before .before .before .before .before .before .before .before .before .before .before .before .before .work-node) .ensures) ((c .before .before .before .before .before .before .before .before .before .before .before .before .before .before .before .before .before .before .before .before .before .before .before .size) .result) ((c .before .before .before .before .before .before .before .before .before .before .before .before .before .before .before .before .before .before .before .before .before .before .before .size) .ensures .0)) ((c .before .before .before .before .before .before .before .before .before .before .before .before .next-plan) .result) (sym ((c .before .before .before .before .before .before .before .before .before .before .before .before .before .before .before .is-passed) .ensures) ∙ not-false ((c .before .before .before .before .before .before .before .before .before .before .before .before .before .before .before .is-passed) .result) ((c .before .before .before .before .before .before .before .before .before .before .before .before .before .before .if1) .left)) ((c .before .before .before .before .before .before .before .before .before .before .before .before .next-plan) .ensures) ((c .before .before .before .before .before .before .before .before .before .before .walk-list2) .ensures) ((c .before .before .before .gathered4) .ensures)) ((c .of-passed2) .ensures (ap (λ x. isPassed (x .answer)) ((c .before .before .before .gathered4) .ensures) ∙ sym ((c .before .before .is-passed2) .ensures) ∙ (c .before .if4) .taken) _ _)
+
+behind-child-of-answered-requires-3 : (t : ℕ) → behind-child-lts.Need-of-answered-requires-3 (work-node-reads.Asked, work-node-reads.Learnt, size-reads.Asked, size-reads.Learnt, link-plan-reads.Asked, link-plan-reads.Learnt, plan-behind-reads.Asked, plan-behind-reads.Learnt, is-passed-reads.Asked, is-passed-reads.Learnt, is-branches-reads.Asked, is-branches-reads.Learnt, walk-list-below t, walk-list.Post, either-reads.Asked, either-reads.Learnt, gathered-reads.Asked, gathered-reads.Learnt, of-answered-reads.Asked, of-answered-reads.Learnt, pass-row-reads.Asked, pass-row-reads.Learnt, stopped-reads.Asked, stopped-reads.Learnt, of-passed-reads.Asked, of-passed-reads.Learnt, next-plan-reads.Asked, next-plan-reads.Learnt) (behind-child-at t) behind-child.Post
+behind-child-of-answered-requires-3 t c κs = let e : (c .before .before .before .gathered4) .result .looks ≡ (c .before .before .before .before .before .before .before .before .before .before .before .before .before .before .before .before .before .before .before .before .before .before .before .before .before .before .before .before .before) .args .b .looks + (c .before .before .before .before .before .before .before .before .before .before .before .before .before .before .before .before .before .before .before .before .before .before .before .before .before .before .before .before .before) .args .w .looks + (c .before .before .before .before .before .before .before .before .before .before .walk-list2) .result .looks = ap (λ x. x .looks) ((c .before .before .before .gathered4) .ensures) in (omega (arith, behind-room (contextOf (read ((c .before .before .before .before .before .before .before .before .before .before .before .before .before .before .before .before .before .before .before .before .before .before .before .before .before .before .before .before .before) .args .file .now))) ((c .before .before .before .before .before .before .before .before .before .before .before .before .before .before .before .before .before .before .before .before .before .before .before .before .before .before .before .before .before) .args .s) ((c .before .before .before .before .before .before .before .before .before .before .before .before .before .before .before .before .before .before .before .before .before .before .before .before .before .before .before .before .before) .pre .1 .1 .1 .0) ((c .before .before .before .before .before .before .before .before .before .before .before .before .before .before .before .before .before .before .before .before .before .before .before .before .before .before .before .before .before) .pre .1 .1 .1 .1 .2), (c .before .before .before .before .before .before .before .before .before .before .walk-list2) .kept .1 .1 .0), omega (arith, e, behind-row (contextOf (read ((c .before .before .before .before .before .before .before .before .before .before .before .before .before .before .before .before .before .before .before .before .before .before .before .before .before .before .before .before .before) .args .file .now))) ((c .before .before .before .before .before .before .before .before .before .before .before .before .before .before .before .before .before .before .before .before .before .before .before .before .before .before .before .before .before) .args .s) ((c .before .before .before .before .before .before .before .before .before .before .before .before .before .before .before .before .before .before .before .before .before .before .before .before .before .before .before .before .before) .pre .1 .1 .1 .0) ((c .before .before .before .before .before .before .before .before .before .before .before .before .before .before .before .before .before .before .before .before .before .before .before .before .before .before .before .before .before) .pre .1 .1 .1 .1 .2) .2, behind-seen (contextOf (read ((c .before .before .before .before .before .before .before .before .before .before .before .before .before .before .before .before .before .before .before .before .before .before .before .before .before .before .before .before .before) .args .file .now))) ((c .before .before .before .before .before .before .before .before .before .before .before .before .before .before .before .before .before .before .before .before .before .before .before .before .before .before .before .before .before) .args .s) ((c .before .before .before .before .before .before .before .before .before .before .before .before .before .before .before .before .before .before .before .before .before .before .before .before .before .before .before .before .before) .pre .1 .1 .1 .0) ((c .before .before .before .before .before .before .before .before .before .before .before .before .before .before .before .before .before .before .before .before .before .before .before .before .before .before .before .before .before) .pre .1 .1 .1 .1 .2), row-looks-most (contextOf (read ((c .before .before .before .before .before .before .before .before .before .before .before .before .before .before .before .before .before .before .before .before .before .before .before .before .before .before .before .before .before) .args .file .now))) ((c .before .before .before .before .before .before .before .before .before .before .before .before .before .before .before .before .before .before .before .before .before .before .before .before .before .before .before .before .before) .args .s) ((c .before .before .before .before .before .before .before .before .before .before .before .before .next-plan) .result) ((c .before .before .before .before .before .before .before .before .before .before .before .before .before .before .before .before .before .before .before .before .before .before .before .before .before .before .before .before .before) .pre .1 .1 .1 .0) (subst (SearchableRow ((c .before .before .before .before .before .before .before .before .before .before .before .before .before .before .before .before .before .before .before .before .before .before .before .before .before .before .before .before .before) .args .nodes .now) ((c .before .before .before .before .before .before .before .before .before .before .before .before .before .before .before .before .before .before .before .before .before .before .before .before .before .before .before .before .before) .args .w .next .0)) (sym (same-left (contextOf (read ((c .before .before .before .before .before .before .before .before .before .before .before .before .before .before .before .before .before .before .before .before .before .before .before .before .before .before .before .before .before) .args .file .now))) ((c .before .before .before .before .before .before .before .before .before .before .before .before .before .before .before .before .before .before .before .before .before .before .before .before .before .before .before .before .before) .args .s) ((c .before .before .before .before .before .before .before .before .before .before .before .before .before .before .before .before .before .before .before .before .before .before .before .before .before .before .before .before .before) .pre .1 .1 .1 .0) ((c .before .before .before .before .before .before .before .before .before .before .before .before .before .before .before .before .before .before .before .before .before .before .before .before .before .before .before .before .before) .pre .1 .1 .1 .1 .2) ((c .before .before .before .before .before .before .before .before .before .before .before .before .before .before .before .before .before .before .before .before .before .before .before .before .work-node) .result) ((c .before .before .before .before .before .before .before .before .before .before .before .before .before .before .before .before .before .before .before .before .before .before .before .before .work-node) .ensures) ((c .before .before .before .before .before .before .before .before .before .before .before .before .before .before .before .before .before .before .before .before .before .before .before .size) .result) ((c .before .before .before .before .before .before .before .before .before .before .before .before .before .before .before .before .before .before .before .before .before .before .before .size) .ensures .0))) (behind-row (contextOf (read ((c .before .before .before .before .before .before .before .before .before .before .before .before .before .before .before .before .before .before .before .before .before .before .before .before .before .before .before .before .before) .args .file .now))) ((c .before .before .before .before .before .before .before .before .before .before .before .before .before .before .before .before .before .before .before .before .before .before .before .before .before .before .before .before .before) .args .s) ((c .before .before .before .before .before .before .before .before .before .before .before .before .before .before .before .before .before .before .before .before .before .before .before .before .before .before .before .before .before) .pre .1 .1 .1 .0) ((c .before .before .before .before .before .before .before .before .before .before .before .before .before .before .before .before .before .before .before .before .before .before .before .before .before .before .before .before .before) .pre .1 .1 .1 .1 .2) .0)) ((c .before .before .before .before .before .before .before .before .before .before .walk-list2) .ensures), (c .before .before .before .before .before .before .before .before .before .before .before .before .before .before .before .before .before .before .before .before .before .before .before .before .before .before .before .before .before) .good .1 .1 .0))
+
+behind-child-same-length-5 : (t : ℕ) → behind-child-lts.Need-same-length-5 (work-node-reads.Asked, work-node-reads.Learnt, size-reads.Asked, size-reads.Learnt, link-plan-reads.Asked, link-plan-reads.Learnt, plan-behind-reads.Asked, plan-behind-reads.Learnt, is-passed-reads.Asked, is-passed-reads.Learnt, is-branches-reads.Asked, is-branches-reads.Learnt, walk-list-below t, walk-list.Post, either-reads.Asked, either-reads.Learnt, gathered-reads.Asked, gathered-reads.Learnt, of-answered-reads.Asked, of-answered-reads.Learnt, pass-row-reads.Asked, pass-row-reads.Learnt, stopped-reads.Asked, stopped-reads.Learnt, of-passed-reads.Asked, of-passed-reads.Learnt, next-plan-reads.Asked, next-plan-reads.Learnt) (behind-child-at t) behind-child.Post
+behind-child-same-length-5 t c = search needs
+
+behind-child-returns-5 : (t : ℕ) → behind-child-lts.Need-returns-5 (work-node-reads.Asked, work-node-reads.Learnt, size-reads.Asked, size-reads.Learnt, link-plan-reads.Asked, link-plan-reads.Learnt, plan-behind-reads.Asked, plan-behind-reads.Learnt, is-passed-reads.Asked, is-passed-reads.Learnt, is-branches-reads.Asked, is-branches-reads.Learnt, walk-list-below t, walk-list.Post, either-reads.Asked, either-reads.Learnt, gathered-reads.Asked, gathered-reads.Learnt, of-answered-reads.Asked, of-answered-reads.Learnt, pass-row-reads.Asked, pass-row-reads.Learnt, stopped-reads.Asked, stopped-reads.Learnt, of-passed-reads.Asked, of-passed-reads.Learnt, next-plan-reads.Asked, next-plan-reads.Learnt) (behind-child-at t) behind-child.Post
+behind-child-returns-5 t c = λ table₀ left g. child-behind (contextOf (read ((c .before .before .before .before .before .before .before .before .before .before .before .before .before .before .before .before .before .before .before .before .before .before .before .before .before .before .before .before .before .before .before .before) .args .file .now))) ((c .before .before .before .before .before .before .before .before .before .before .before .before .before .before .before .before .before .before .before .before .before .before .before .before .before .before .before .before .before .before .before .before) .args .s) ((c .before .before .before .before .before .before .before .before .before .before .before .before .before .before .before .before .before .before .before .before .before .before .before .before .before .before .before .before .before .before .before .before) .pre .1 .1 .1 .0) g ((c .before .before .before .before .before .before .before .before .before .before .before .before .before .before .before .before .before .before .before .before .before .before .before .before .before .before .before .work-node) .result) ((c .before .before .before .before .before .before .before .before .before .before .before .before .before .before .before .before .before .before .before .before .before .before .before .before .before .before .before .work-node) .ensures) (row-all (contextOf (read ((c .before .before .before .before .before .before .before .before .before .before .before .before .before .before .before .before .before .before .before .before .before .before .before .before .before .before .before .before .before .before .before .before) .args .file .now))) ((c .before .before .before .before .before .before .before .before .before .before .before .before .before .before .before .before .before .before .before .before .before .before .before .before .before .before .before .before .before .before .before .before) .args .s) ((c .before .before .before .before .before .before .before .before .before .before .before .before .before .before .before .before .before .before .before .before .before .before .before .before .before .before .before .before .before .before .before .before) .pre .1 .1 .1 .0) g ((c .before .before .before .before .before .before .before .before .before .before .before .before .before .before .before .before .before .before .before .before .plan-behind) .result) ((c .before .before .before .before .before .before .before .before .before .before .before .before .before .before .before .before .before .before .before .before .plan-behind) .ensures ∙ ap (λ p. planBehind p ((c .before .before .before .before .before .before .before .before .before .before .before .before .before .before .before .before .before .before .before .before .before .before .before .before .before .before .before .before .before .before .before .before) .args .child .0 - (c .before .before .before .before .before .before .before .before .before .before .before .before .before .before .before .before .before .before .before .before .before .before .before .before .before .before .before .before .before .before .before .before) .args .b .link .0 - 1)) ((c .before .before .before .before .before .before .before .before .before .before .before .before .before .before .before .before .before .before .before .before .before .before .before .link-plan) .ensures) ∙ plan-was (contextOf (read ((c .before .before .before .before .before .before .before .before .before .before .before .before .before .before .before .before .before .before .before .before .before .before .before .before .before .before .before .before .before .before .before .before) .args .file .now))) ((c .before .before .before .before .before .before .before .before .before .before .before .before .before .before .before .before .before .before .before .before .before .before .before .before .before .before .before .before .before .before .before .before) .args .s) ((c .before .before .before .before .before .before .before .before .before .before .before .before .before .before .before .before .before .before .before .before .before .before .before .before .before .before .before .before .before .before .before .before) .pre .1 .1 .1 .0) g ((c .before .before .before .before .before .before .before .before .before .before .before .before .before .before .before .before .before .before .before .before .before .before .before .before .before .before .before .work-node) .result) ((c .before .before .before .before .before .before .before .before .before .before .before .before .before .before .before .before .before .before .before .before .before .before .before .before .before .before .before .work-node) .ensures)) ((c .before .before .before .before .before .before .before .before .before .before .before .before .before .before .before .before .before .before .before .before .before .before .before .before .before .before .size) .result + (c .before .before .before .before .before .before .before .before .before .before .before .before .before .before .before .before .before .before .before .before .before .before .before .before .before .before .before .before .before .before .before .before) .args .b .link .0 - (c .before .before .before .before .before .before .before .before .before .before .before .before .before .before .before .before .before .before .before .before .before .before .before .before .before .before .before .before .before .before .before .before) .args .child .0) (same-left (contextOf (read ((c .before .before .before .before .before .before .before .before .before .before .before .before .before .before .before .before .before .before .before .before .before .before .before .before .before .before .before .before .before .before .before .before) .args .file .now))) ((c .before .before .before .before .before .before .before .before .before .before .before .before .before .before .before .before .before .before .before .before .before .before .before .before .before .before .before .before .before .before .before .before) .args .s) ((c .before .before .before .before .before .before .before .before .before .before .before .before .before .before .before .before .before .before .before .before .before .before .before .before .before .before .before .before .before .before .before .before) .pre .1 .1 .1 .0) g ((c .before .before .before .before .before .before .before .before .before .before .before .before .before .before .before .before .before .before .before .before .before .before .before .before .before .before .before .work-node) .result) ((c .before .before .before .before .before .before .before .before .before .before .before .before .before .before .before .before .before .before .before .before .before .before .before .before .before .before .before .work-node) .ensures) ((c .before .before .before .before .before .before .before .before .before .before .before .before .before .before .before .before .before .before .before .before .before .before .before .before .before .before .size) .result) ((c .before .before .before .before .before .before .before .before .before .before .before .before .before .before .before .before .before .before .before .before .before .before .before .before .before .before .size) .ensures .0)) ((c .before .before .before .before .before .before .before .before .before .before .before .before .before .before .before .next-plan) .result) (sym ((c .before .before .before .before .before .before .before .before .before .before .before .before .before .before .before .before .before .before .is-passed) .ensures) ∙ not-false ((c .before .before .before .before .before .before .before .before .before .before .before .before .before .before .before .before .before .before .is-passed) .result) ((c .before .before .before .before .before .before .before .before .before .before .before .before .before .before .before .before .before .if1) .left)) ((c .before .before .before .before .before .before .before .before .before .before .before .before .before .before .before .next-plan) .ensures) ((c .before .before .before .before .before .before .before .before .before .before .before .before .before .walk-list2) .ensures) ((c .before .before .before .before .before .before .gathered4) .ensures)) ((c .before .before .of-answered3) .ensures .0 (ap (λ x. isPassed (x .answer)) ((c .before .before .before .before .before .before .gathered4) .ensures) ∙ sym ((c .before .before .before .before .before .is-passed2) .ensures) ∙ (c .before .before .before .before .if4) .left) (contextOf (read ((c .before .before .before .before .before .before .before .before .before .before .before .before .before .before .before .before .before .before .before .before .before .before .before .before .before .before .before .before .before .before .before .before) .args .file .now))) false ((c .before .before .before .before .before .before .before .before .before .before .before .before .before .before .before .before .before .before .before .before .before .before .before .before .before .before .before .before .before .before .before .before) .args .s))
 
 abbrev substitute-single-use-symbol-in-expression-Inv-loop :
     substitute-single-use-symbol-in-expression-lts.InvT-loop
-substitute-single-use-symbol-in-expression-Inv-loop file h nodes₀ at s w₀ i₀ replaced₀ nodes w i replaced = (replaced ≡ isReplaced (w .answer)) × (length nodes ≡ length nodes₀) × ((table₀ : List ℕ) → Within (contextOf (read file)) s table₀ nodes₀ (at .0) i₀ w₀ → Within (contextOf (read file)) s table₀ nodes (at .0) i w)
+substitute-single-use-symbol-in-expression-Inv-loop file h nodes₀ at s w₀ i₀ looks₀ replaced₀ nodes w i looks replaced = (replaced ≡ isReplaced (w .answer)) × (length nodes ≡ length nodes₀) × ((table₀ : List ℕ) → Within (contextOf (read file)) s table₀ nodes₀ (at .0) i₀ looks₀ w₀ → Within (contextOf (read file)) s table₀ nodes (at .0) i looks w)
 
 abbrev substitute-single-use-symbol-in-expression-μ-loop :
     substitute-single-use-symbol-in-expression-lts.MeasureT-loop
-substitute-single-use-symbol-in-expression-μ-loop file h nodes₀ at s w₀ i₀ replaced₀ nodes w i replaced = i
+substitute-single-use-symbol-in-expression-μ-loop file h nodes₀ at s w₀ i₀ looks₀ replaced₀ nodes w i looks replaced = i
 
 substitute-single-use-symbol-in-expression-behind-links-requires :
-    (t : ℕ) → substitute-single-use-symbol-in-expression-lts.Need-behind-links-requires (behind-links-reads.Asked, behind-links-reads.Learnt, walk-node-below t, walk-node.Post, is-replaced-reads.Asked, is-replaced-reads.Learnt, leaves-before-reads.Asked, leaves-before-reads.Learnt, behind-child-below t, behind-child.Post, of-links-reads.Asked, of-links-reads.Learnt)
+    (t : ℕ) → substitute-single-use-symbol-in-expression-lts.Need-behind-links-requires (behind-links-reads.Asked, behind-links-reads.Learnt, walk-node-below t, walk-node.Post, is-replaced-reads.Asked, is-replaced-reads.Learnt, leaves-before-reads.Asked, leaves-before-reads.Learnt, behind-child-below t, behind-child.Post, gathered-reads.Asked, gathered-reads.Learnt)
     (substitute-single-use-symbol-in-expression-at t)
     substitute-single-use-symbol-in-expression.Post
     substitute-single-use-symbol-in-expression-Inv-loop
@@ -258,15 +289,15 @@ substitute-single-use-symbol-in-expression-behind-links-requires :
 substitute-single-use-symbol-in-expression-behind-links-requires t c κs = ((c .before .before .before) .pre .1 .0, ((c .before .before .before) .pre .1 .1 .0, ((c .before .before .before) .pre .1 .1 .1 .0, ((c .before .before .before) .pre .1 .1 .1 .1))))
 
 substitute-single-use-symbol-in-expression-walk-node-requires :
-    (t : ℕ) → substitute-single-use-symbol-in-expression-lts.Need-walk-node-requires (behind-links-reads.Asked, behind-links-reads.Learnt, walk-node-below t, walk-node.Post, is-replaced-reads.Asked, is-replaced-reads.Learnt, leaves-before-reads.Asked, leaves-before-reads.Learnt, behind-child-below t, behind-child.Post, of-links-reads.Asked, of-links-reads.Learnt)
+    (t : ℕ) → substitute-single-use-symbol-in-expression-lts.Need-walk-node-requires (behind-links-reads.Asked, behind-links-reads.Learnt, walk-node-below t, walk-node.Post, is-replaced-reads.Asked, is-replaced-reads.Learnt, leaves-before-reads.Asked, leaves-before-reads.Learnt, behind-child-below t, behind-child.Post, gathered-reads.Asked, gathered-reads.Learnt)
     (substitute-single-use-symbol-in-expression-at t)
     substitute-single-use-symbol-in-expression.Post
     substitute-single-use-symbol-in-expression-Inv-loop
     substitute-single-use-symbol-in-expression-μ-loop
-substitute-single-use-symbol-in-expression-walk-node-requires t c κs = (omega (arith, (c .before .before .before .before .before) .pre .0, (c .before .behind-links) .ensures .0, searchable-room ((c .before .before .before .before .before) .pre .1 .1 .1 .0)), ((c .before .before .before .before .before) .pre .1 .0, ((c .before .before .before .before .before) .pre .1 .1 .0, ((c .before .behind-links) .ensures .2, ((c .before .before .before .before .before) .pre .1 .1 .1 .1)))))
+substitute-single-use-symbol-in-expression-walk-node-requires t c κs = (omega (arith, (c .before .before .before .before .before .before) .pre .0, links-seen ((c .before .before .behind-links) .ensures .links), searchable-room ((c .before .before .before .before .before .before) .pre .1 .1 .1 .0)), ((c .before .before .before .before .before .before) .pre .1 .0, ((c .before .before .before .before .before .before) .pre .1 .1 .0, ((c .before .before .behind-links) .ensures .here, ((c .before .before .before .before .before .before) .pre .1 .1 .1 .1)))))
 
 substitute-single-use-symbol-in-expression-is-replaced-requires :
-    (t : ℕ) → substitute-single-use-symbol-in-expression-lts.Need-is-replaced-requires (behind-links-reads.Asked, behind-links-reads.Learnt, walk-node-below t, walk-node.Post, is-replaced-reads.Asked, is-replaced-reads.Learnt, leaves-before-reads.Asked, leaves-before-reads.Learnt, behind-child-below t, behind-child.Post, of-links-reads.Asked, of-links-reads.Learnt)
+    (t : ℕ) → substitute-single-use-symbol-in-expression-lts.Need-is-replaced-requires (behind-links-reads.Asked, behind-links-reads.Learnt, walk-node-below t, walk-node.Post, is-replaced-reads.Asked, is-replaced-reads.Learnt, leaves-before-reads.Asked, leaves-before-reads.Learnt, behind-child-below t, behind-child.Post, gathered-reads.Asked, gathered-reads.Learnt)
     (substitute-single-use-symbol-in-expression-at t)
     substitute-single-use-symbol-in-expression.Post
     substitute-single-use-symbol-in-expression-Inv-loop
@@ -274,7 +305,7 @@ substitute-single-use-symbol-in-expression-is-replaced-requires :
 substitute-single-use-symbol-in-expression-is-replaced-requires t c κs = tt
 
 substitute-single-use-symbol-in-expression-loop-holds :
-    (t : ℕ) → substitute-single-use-symbol-in-expression-lts.Need-loop-holds (behind-links-reads.Asked, behind-links-reads.Learnt, walk-node-below t, walk-node.Post, is-replaced-reads.Asked, is-replaced-reads.Learnt, leaves-before-reads.Asked, leaves-before-reads.Learnt, behind-child-below t, behind-child.Post, of-links-reads.Asked, of-links-reads.Learnt)
+    (t : ℕ) → substitute-single-use-symbol-in-expression-lts.Need-loop-holds (behind-links-reads.Asked, behind-links-reads.Learnt, walk-node-below t, walk-node.Post, is-replaced-reads.Asked, is-replaced-reads.Learnt, leaves-before-reads.Asked, leaves-before-reads.Learnt, behind-child-below t, behind-child.Post, gathered-reads.Asked, gathered-reads.Learnt)
     (substitute-single-use-symbol-in-expression-at t)
     substitute-single-use-symbol-in-expression.Post
     substitute-single-use-symbol-in-expression-Inv-loop
@@ -282,23 +313,39 @@ substitute-single-use-symbol-in-expression-loop-holds :
 substitute-single-use-symbol-in-expression-loop-holds t c = ((c .is-replaced) .ensures, refl, λ table₀ g. g)
 
 substitute-single-use-symbol-in-expression-leaves-before-requires :
-    (t : ℕ) → substitute-single-use-symbol-in-expression-lts.Need-leaves-before-requires (behind-links-reads.Asked, behind-links-reads.Learnt, walk-node-below t, walk-node.Post, is-replaced-reads.Asked, is-replaced-reads.Learnt, leaves-before-reads.Asked, leaves-before-reads.Learnt, behind-child-below t, behind-child.Post, of-links-reads.Asked, of-links-reads.Learnt)
+    (t : ℕ) → substitute-single-use-symbol-in-expression-lts.Need-leaves-before-requires (behind-links-reads.Asked, behind-links-reads.Learnt, walk-node-below t, walk-node.Post, is-replaced-reads.Asked, is-replaced-reads.Learnt, leaves-before-reads.Asked, leaves-before-reads.Learnt, behind-child-below t, behind-child.Post, gathered-reads.Asked, gathered-reads.Learnt)
     (substitute-single-use-symbol-in-expression-at t)
     substitute-single-use-symbol-in-expression.Post
     substitute-single-use-symbol-in-expression-Inv-loop
     substitute-single-use-symbol-in-expression-μ-loop
-substitute-single-use-symbol-in-expression-leaves-before-requires t c κs = let g = (c .before .before .before .loop) .inv .2 ((c .before .before .before .before .before .before .before .before .before .before .before .before .before) .args .nodes .now) (record { later = (c .before .before .before .before .before .before .before .before .before .behind-links) .ensures .0; links = (c .before .before .before .before .before .before .before .before .before .behind-links) .ensures .1; here = (c .before .before .before .before .before .before .before .before .before .behind-links) .ensures .2; did = (c .before .before .before .before .before .before .before .walk-node) .ensures; same = (c .before .before .before .before .before .before .before .walk-node) .kept .1 .1 .0 }) in (within-room (contextOf (read ((c .before .before .before .before .before .before .before .before .before .before .before .before .before) .args .file .now))) ((c .before .before .before .before .before .before .before .before .before .before .before .before .before) .args .s) ((c .before .before .before .before .before .before .before .before .before .before .before .before .before) .pre .1 .1 .1 .1) g (ltb-true ((c .before .before .before .before .before .before .before .before .before .before .before .before .before) .args .at .0) ((c .before .before .before .loop) .i) (and-right (not ((c .before .before .before .loop) .replaced)) (ltb ((c .before .before .before .before .before .before .before .before .before .before .before .before .before) .args .at .0) ((c .before .before .before .loop) .i)) ((c .before .if1) .taken))), within-node (contextOf (read ((c .before .before .before .before .before .before .before .before .before .before .before .before .before) .args .file .now))) ((c .before .before .before .before .before .before .before .before .before .before .before .before .before) .args .s) ((c .before .before .before .before .before .before .before .before .before .before .before .before .before) .pre .1 .1 .1 .1) g (ltb-true ((c .before .before .before .before .before .before .before .before .before .before .before .before .before) .args .at .0) ((c .before .before .before .loop) .i) (and-right (not ((c .before .before .before .loop) .replaced)) (ltb ((c .before .before .before .before .before .before .before .before .before .before .before .before .before) .args .at .0) ((c .before .before .before .loop) .i)) ((c .before .if1) .taken))))
+substitute-single-use-symbol-in-expression-leaves-before-requires t c κs = let g = (c .before .before .before .loop) .inv .2 ((c .before .before .before .before .before .before .before .before .before .before .before .before .before .before) .args .nodes .now) (record { links = (c .before .before .before .before .before .before .before .before .before .before .behind-links) .ensures .links; here = (c .before .before .before .before .before .before .before .before .before .before .behind-links) .ensures .here; did = (c .before .before .before .before .before .before .before .walk-node) .ensures; same = (c .before .before .before .before .before .before .before .walk-node) .kept .1 .1 .0 }) in (within-room (contextOf (read ((c .before .before .before .before .before .before .before .before .before .before .before .before .before .before) .args .file .now))) ((c .before .before .before .before .before .before .before .before .before .before .before .before .before .before) .args .s) ((c .before .before .before .before .before .before .before .before .before .before .before .before .before .before) .pre .1 .1 .1 .1) g (ltb-true ((c .before .before .before .before .before .before .before .before .before .before .before .before .before .before) .args .at .0) ((c .before .before .before .loop) .i) (and-right (not ((c .before .before .before .loop) .replaced)) (ltb ((c .before .before .before .before .before .before .before .before .before .before .before .before .before .before) .args .at .0) ((c .before .before .before .loop) .i)) ((c .before .if1) .taken))), within-node (contextOf (read ((c .before .before .before .before .before .before .before .before .before .before .before .before .before .before) .args .file .now))) ((c .before .before .before .before .before .before .before .before .before .before .before .before .before .before) .args .s) ((c .before .before .before .before .before .before .before .before .before .before .before .before .before .before) .pre .1 .1 .1 .1) g (ltb-true ((c .before .before .before .before .before .before .before .before .before .before .before .before .before .before) .args .at .0) ((c .before .before .before .loop) .i) (and-right (not ((c .before .before .before .loop) .replaced)) (ltb ((c .before .before .before .before .before .before .before .before .before .before .before .before .before .before) .args .at .0) ((c .before .before .before .loop) .i)) ((c .before .if1) .taken))))
 
 substitute-single-use-symbol-in-expression-behind-child-requires :
-    (t : ℕ) → substitute-single-use-symbol-in-expression-lts.Need-behind-child-requires (behind-links-reads.Asked, behind-links-reads.Learnt, walk-node-below t, walk-node.Post, is-replaced-reads.Asked, is-replaced-reads.Learnt, leaves-before-reads.Asked, leaves-before-reads.Learnt, behind-child-below t, behind-child.Post, of-links-reads.Asked, of-links-reads.Learnt)
+    (t : ℕ) → substitute-single-use-symbol-in-expression-lts.Need-behind-child-requires (behind-links-reads.Asked, behind-links-reads.Learnt, walk-node-below t, walk-node.Post, is-replaced-reads.Asked, is-replaced-reads.Learnt, leaves-before-reads.Asked, leaves-before-reads.Learnt, behind-child-below t, behind-child.Post, gathered-reads.Asked, gathered-reads.Learnt)
     (substitute-single-use-symbol-in-expression-at t)
     substitute-single-use-symbol-in-expression.Post
     substitute-single-use-symbol-in-expression-Inv-loop
     substitute-single-use-symbol-in-expression-μ-loop
-substitute-single-use-symbol-in-expression-behind-child-requires t c κs = let g = (c .before .before .before .before .before .loop) .inv .2 ((c .before .before .before .before .before .before .before .before .before .before .before .before .before .before .before) .args .nodes .now) (record { later = (c .before .before .before .before .before .before .before .before .before .before .before .behind-links) .ensures .0; links = (c .before .before .before .before .before .before .before .before .before .before .before .behind-links) .ensures .1; here = (c .before .before .before .before .before .before .before .before .before .before .before .behind-links) .ensures .2; did = (c .before .before .before .before .before .before .before .before .before .walk-node) .ensures; same = (c .before .before .before .before .before .before .before .before .before .walk-node) .kept .1 .1 .0 }) in (omega (arith, (c .before .before .before .before .before .before .before .before .before .before .before .before .before .before .before) .pre .0, before-later (contextOf (read ((c .before .before .before .before .before .before .before .before .before .before .before .before .before .before .before) .args .file .now))) ((c .before .before .before .before .before .before .before .before .before .before .before .before .before .before .before) .args .s) ((c .before .before .before .before .before .before .before .before .before .before .before .before .before .before .before) .pre .1 .1 .1 .1) g (ltb-true ((c .before .before .before .before .before .before .before .before .before .before .before .before .before .before .before) .args .at .0) ((c .before .before .before .before .before .loop) .i) (and-right (not ((c .before .before .before .before .before .loop) .replaced)) (ltb ((c .before .before .before .before .before .before .before .before .before .before .before .before .before .before .before) .args .at .0) ((c .before .before .before .before .before .loop) .i)) ((c .before .before .before .if1) .taken))) ((c .before .leaves-before) .result) ((c .before .leaves-before) .ensures), before-room (contextOf (read ((c .before .before .before .before .before .before .before .before .before .before .before .before .before .before .before) .args .file .now))) ((c .before .before .before .before .before .before .before .before .before .before .before .before .before .before .before) .args .s) ((c .before .before .before .before .before .before .before .before .before .before .before .before .before .before .before) .pre .1 .1 .1 .1) g (ltb-true ((c .before .before .before .before .before .before .before .before .before .before .before .before .before .before .before) .args .at .0) ((c .before .before .before .before .before .loop) .i) (and-right (not ((c .before .before .before .before .before .loop) .replaced)) (ltb ((c .before .before .before .before .before .before .before .before .before .before .before .before .before .before .before) .args .at .0) ((c .before .before .before .before .before .loop) .i)) ((c .before .before .before .if1) .taken))) ((c .before .leaves-before) .result) ((c .before .leaves-before) .ensures), (c .before .before .before .before .before .loop) .inv .1, (c .before .before .before .before .before .before .before .before .before .walk-node) .kept .1 .1 .0), ((c .before .before .before .before .before .before .before .before .before .before .before .before .before .before .before) .pre .1 .0, ((c .before .before .before .before .before .before .before .before .before .before .before .before .before .before .before) .pre .1 .1 .0, (((c .before .before .before .before .before .before .before .before .before .before .before .before .before .before .before) .pre .1 .1 .1 .1), ((c .before .before .before .before .before .before .before .before .before .before .before .before .before .before .before) .args .nodes .now, within-child (contextOf (read ((c .before .before .before .before .before .before .before .before .before .before .before .before .before .before .before) .args .file .now))) ((c .before .before .before .before .before .before .before .before .before .before .before .before .before .before .before) .args .s) ((c .before .before .before .before .before .before .before .before .before .before .before .before .before .before .before) .pre .1 .1 .1 .1) g (ltb-true ((c .before .before .before .before .before .before .before .before .before .before .before .before .before .before .before) .args .at .0) ((c .before .before .before .before .before .loop) .i) (and-right (not ((c .before .before .before .before .before .loop) .replaced)) (ltb ((c .before .before .before .before .before .before .before .before .before .before .before .before .before .before .before) .args .at .0) ((c .before .before .before .before .before .loop) .i)) ((c .before .before .before .if1) .taken))) ((c .before .leaves-before) .result) ((c .before .leaves-before) .ensures) (sym ((c .before .before .before .before .before .loop) .inv .0) ∙ not-true ((c .before .before .before .before .before .loop) .replaced) (and-left (not ((c .before .before .before .before .before .loop) .replaced)) (ltb ((c .before .before .before .before .before .before .before .before .before .before .before .before .before .before .before) .args .at .0) ((c .before .before .before .before .before .loop) .i)) ((c .before .before .before .if1) .taken))) .0, within-child (contextOf (read ((c .before .before .before .before .before .before .before .before .before .before .before .before .before .before .before) .args .file .now))) ((c .before .before .before .before .before .before .before .before .before .before .before .before .before .before .before) .args .s) ((c .before .before .before .before .before .before .before .before .before .before .before .before .before .before .before) .pre .1 .1 .1 .1) g (ltb-true ((c .before .before .before .before .before .before .before .before .before .before .before .before .before .before .before) .args .at .0) ((c .before .before .before .before .before .loop) .i) (and-right (not ((c .before .before .before .before .before .loop) .replaced)) (ltb ((c .before .before .before .before .before .before .before .before .before .before .before .before .before .before .before) .args .at .0) ((c .before .before .before .before .before .loop) .i)) ((c .before .before .before .if1) .taken))) ((c .before .leaves-before) .result) ((c .before .leaves-before) .ensures) (sym ((c .before .before .before .before .before .loop) .inv .0) ∙ not-true ((c .before .before .before .before .before .loop) .replaced) (and-left (not ((c .before .before .before .before .before .loop) .replaced)) (ltb ((c .before .before .before .before .before .before .before .before .before .before .before .before .before .before .before) .args .at .0) ((c .before .before .before .before .before .loop) .i)) ((c .before .before .before .if1) .taken))) .1)))))
+substitute-single-use-symbol-in-expression-behind-child-requires t c κs = let g = (c .before .before .before .before .before .loop) .inv .2 ((c .before .before .before .before .before .before .before .before .before .before .before .before .before .before .before .before) .args .nodes .now) (record { links = (c .before .before .before .before .before .before .before .before .before .before .before .before .behind-links) .ensures .links; here = (c .before .before .before .before .before .before .before .before .before .before .before .before .behind-links) .ensures .here; did = (c .before .before .before .before .before .before .before .before .before .walk-node) .ensures; same = (c .before .before .before .before .before .before .before .before .before .walk-node) .kept .1 .1 .0 }) in (omega (arith, (c .before .before .before .before .before .before .before .before .before .before .before .before .before .before .before .before) .pre .0, before-later (contextOf (read ((c .before .before .before .before .before .before .before .before .before .before .before .before .before .before .before .before) .args .file .now))) ((c .before .before .before .before .before .before .before .before .before .before .before .before .before .before .before .before) .args .s) ((c .before .before .before .before .before .before .before .before .before .before .before .before .before .before .before .before) .pre .1 .1 .1 .1) g (ltb-true ((c .before .before .before .before .before .before .before .before .before .before .before .before .before .before .before .before) .args .at .0) ((c .before .before .before .before .before .loop) .i) (and-right (not ((c .before .before .before .before .before .loop) .replaced)) (ltb ((c .before .before .before .before .before .before .before .before .before .before .before .before .before .before .before .before) .args .at .0) ((c .before .before .before .before .before .loop) .i)) ((c .before .before .before .if1) .taken))) ((c .before .leaves-before) .result) ((c .before .leaves-before) .ensures), before-room (contextOf (read ((c .before .before .before .before .before .before .before .before .before .before .before .before .before .before .before .before) .args .file .now))) ((c .before .before .before .before .before .before .before .before .before .before .before .before .before .before .before .before) .args .s) ((c .before .before .before .before .before .before .before .before .before .before .before .before .before .before .before .before) .pre .1 .1 .1 .1) g (ltb-true ((c .before .before .before .before .before .before .before .before .before .before .before .before .before .before .before .before) .args .at .0) ((c .before .before .before .before .before .loop) .i) (and-right (not ((c .before .before .before .before .before .loop) .replaced)) (ltb ((c .before .before .before .before .before .before .before .before .before .before .before .before .before .before .before .before) .args .at .0) ((c .before .before .before .before .before .loop) .i)) ((c .before .before .before .if1) .taken))) ((c .before .leaves-before) .result) ((c .before .leaves-before) .ensures), (c .before .before .before .before .before .loop) .inv .1, (c .before .before .before .before .before .before .before .before .before .walk-node) .kept .1 .1 .0), ((c .before .before .before .before .before .before .before .before .before .before .before .before .before .before .before .before) .pre .1 .0, ((c .before .before .before .before .before .before .before .before .before .before .before .before .before .before .before .before) .pre .1 .1 .0, (((c .before .before .before .before .before .before .before .before .before .before .before .before .before .before .before .before) .pre .1 .1 .1 .1), ((c .before .before .before .before .before .before .before .before .before .before .before .before .before .before .before .before) .args .nodes .now, within-child (contextOf (read ((c .before .before .before .before .before .before .before .before .before .before .before .before .before .before .before .before) .args .file .now))) ((c .before .before .before .before .before .before .before .before .before .before .before .before .before .before .before .before) .args .s) ((c .before .before .before .before .before .before .before .before .before .before .before .before .before .before .before .before) .pre .1 .1 .1 .1) g (ltb-true ((c .before .before .before .before .before .before .before .before .before .before .before .before .before .before .before .before) .args .at .0) ((c .before .before .before .before .before .loop) .i) (and-right (not ((c .before .before .before .before .before .loop) .replaced)) (ltb ((c .before .before .before .before .before .before .before .before .before .before .before .before .before .before .before .before) .args .at .0) ((c .before .before .before .before .before .loop) .i)) ((c .before .before .before .if1) .taken))) ((c .before .leaves-before) .result) ((c .before .leaves-before) .ensures) (sym ((c .before .before .before .before .before .loop) .inv .0) ∙ not-true ((c .before .before .before .before .before .loop) .replaced) (and-left (not ((c .before .before .before .before .before .loop) .replaced)) (ltb ((c .before .before .before .before .before .before .before .before .before .before .before .before .before .before .before .before) .args .at .0) ((c .before .before .before .before .before .loop) .i)) ((c .before .before .before .if1) .taken))) .0, within-child (contextOf (read ((c .before .before .before .before .before .before .before .before .before .before .before .before .before .before .before .before) .args .file .now))) ((c .before .before .before .before .before .before .before .before .before .before .before .before .before .before .before .before) .args .s) ((c .before .before .before .before .before .before .before .before .before .before .before .before .before .before .before .before) .pre .1 .1 .1 .1) g (ltb-true ((c .before .before .before .before .before .before .before .before .before .before .before .before .before .before .before .before) .args .at .0) ((c .before .before .before .before .before .loop) .i) (and-right (not ((c .before .before .before .before .before .loop) .replaced)) (ltb ((c .before .before .before .before .before .before .before .before .before .before .before .before .before .before .before .before) .args .at .0) ((c .before .before .before .before .before .loop) .i)) ((c .before .before .before .if1) .taken))) ((c .before .leaves-before) .result) ((c .before .leaves-before) .ensures) (sym ((c .before .before .before .before .before .loop) .inv .0) ∙ not-true ((c .before .before .before .before .before .loop) .replaced) (and-left (not ((c .before .before .before .before .before .loop) .replaced)) (ltb ((c .before .before .before .before .before .before .before .before .before .before .before .before .before .before .before .before) .args .at .0) ((c .before .before .before .before .before .loop) .i)) ((c .before .before .before .if1) .taken))) .1)))))
+
+substitute-single-use-symbol-in-expression-add-looks :
+    (t : ℕ) → substitute-single-use-symbol-in-expression-lts.Need-add-looks (behind-links-reads.Asked, behind-links-reads.Learnt, walk-node-below t, walk-node.Post, is-replaced-reads.Asked, is-replaced-reads.Learnt, leaves-before-reads.Asked, leaves-before-reads.Learnt, behind-child-below t, behind-child.Post, gathered-reads.Asked, gathered-reads.Learnt)
+    (substitute-single-use-symbol-in-expression-at t)
+    substitute-single-use-symbol-in-expression.Post
+    substitute-single-use-symbol-in-expression-Inv-loop
+    substitute-single-use-symbol-in-expression-μ-loop
+substitute-single-use-symbol-in-expression-add-looks t c = let g = (c .before .before .before .before .before .before .before .before .before .before .loop) .inv .2 ((c .before .before .before .before .before .before .before .before .before .before .before .before .before .before .before .before .before .before .before .before .before) .args .nodes .now) (record { links = (c .before .before .before .before .before .before .before .before .before .before .before .before .before .before .before .before .before .behind-links) .ensures .links; here = (c .before .before .before .before .before .before .before .before .before .before .before .before .before .before .before .before .before .behind-links) .ensures .here; did = (c .before .before .before .before .before .before .before .before .before .before .before .before .before .before .walk-node) .ensures; same = (c .before .before .before .before .before .before .before .before .before .before .before .before .before .before .walk-node) .kept .1 .1 .0 }) in omega (arith, before-looks (contextOf (read ((c .before .before .before .before .before .before .before .before .before .before .before .before .before .before .before .before .before .before .before .before .before) .args .file .now))) ((c .before .before .before .before .before .before .before .before .before .before .before .before .before .before .before .before .before .before .before .before .before) .args .s) ((c .before .before .before .before .before .before .before .before .before .before .before .before .before .before .before .before .before .before .before .before .before) .pre .1 .1 .1 .1) g (ltb-true ((c .before .before .before .before .before .before .before .before .before .before .before .before .before .before .before .before .before .before .before .before .before) .args .at .0) ((c .before .before .before .before .before .before .before .before .before .before .loop) .i) (and-right (not ((c .before .before .before .before .before .before .before .before .before .before .loop) .replaced)) (ltb ((c .before .before .before .before .before .before .before .before .before .before .before .before .before .before .before .before .before .before .before .before .before) .args .at .0) ((c .before .before .before .before .before .before .before .before .before .before .loop) .i)) ((c .before .before .before .before .before .before .before .before .if1) .taken))) ((c .before .before .before .before .before .before .leaves-before) .result) ((c .before .before .before .before .before .before .leaves-before) .ensures), within-looks (contextOf (read ((c .before .before .before .before .before .before .before .before .before .before .before .before .before .before .before .before .before .before .before .before .before) .args .file .now))) ((c .before .before .before .before .before .before .before .before .before .before .before .before .before .before .before .before .before .before .before .before .before) .args .s) ((c .before .before .before .before .before .before .before .before .before .before .before .before .before .before .before .before .before .before .before .before .before) .pre .1 .1 .1 .1) g, (c .before .before .before .before .before .before .before .before .before .before .loop) .inv .1, (c .before .before .before .before .before .before .before .before .before .before .before .before .before .before .walk-node) .kept .1 .1 .0, (c .before .before .before .before .before .before .before .before .before .before .before .before .before .before .before .before .before .before .before .before .before) .good .1 .1 .0)
+
+substitute-single-use-symbol-in-expression-sub-looks :
+    (t : ℕ) → substitute-single-use-symbol-in-expression-lts.Need-sub-looks (behind-links-reads.Asked, behind-links-reads.Learnt, walk-node-below t, walk-node.Post, is-replaced-reads.Asked, is-replaced-reads.Learnt, leaves-before-reads.Asked, leaves-before-reads.Learnt, behind-child-below t, behind-child.Post, gathered-reads.Asked, gathered-reads.Learnt)
+    (substitute-single-use-symbol-in-expression-at t)
+    substitute-single-use-symbol-in-expression.Post
+    substitute-single-use-symbol-in-expression-Inv-loop
+    substitute-single-use-symbol-in-expression-μ-loop
+substitute-single-use-symbol-in-expression-sub-looks t c = let g = (c .before .before .before .before .before .before .before .before .before .before .loop) .inv .2 ((c .before .before .before .before .before .before .before .before .before .before .before .before .before .before .before .before .before .before .before .before .before) .args .nodes .now) (record { links = (c .before .before .before .before .before .before .before .before .before .before .before .before .before .before .before .before .before .behind-links) .ensures .links; here = (c .before .before .before .before .before .before .before .before .before .before .before .before .before .before .before .before .before .behind-links) .ensures .here; did = (c .before .before .before .before .before .before .before .before .before .before .before .before .before .before .walk-node) .ensures; same = (c .before .before .before .before .before .before .before .before .before .before .before .before .before .before .walk-node) .kept .1 .1 .0 }) in before-looks (contextOf (read ((c .before .before .before .before .before .before .before .before .before .before .before .before .before .before .before .before .before .before .before .before .before) .args .file .now))) ((c .before .before .before .before .before .before .before .before .before .before .before .before .before .before .before .before .before .before .before .before .before) .args .s) ((c .before .before .before .before .before .before .before .before .before .before .before .before .before .before .before .before .before .before .before .before .before) .pre .1 .1 .1 .1) g (ltb-true ((c .before .before .before .before .before .before .before .before .before .before .before .before .before .before .before .before .before .before .before .before .before) .args .at .0) ((c .before .before .before .before .before .before .before .before .before .before .loop) .i) (and-right (not ((c .before .before .before .before .before .before .before .before .before .before .loop) .replaced)) (ltb ((c .before .before .before .before .before .before .before .before .before .before .before .before .before .before .before .before .before .before .before .before .before) .args .at .0) ((c .before .before .before .before .before .before .before .before .before .before .loop) .i)) ((c .before .before .before .before .before .before .before .before .if1) .taken))) ((c .before .before .before .before .before .before .leaves-before) .result) ((c .before .before .before .before .before .before .leaves-before) .ensures)
 
 substitute-single-use-symbol-in-expression-is-replaced-requires-2 :
-    (t : ℕ) → substitute-single-use-symbol-in-expression-lts.Need-is-replaced-requires-2 (behind-links-reads.Asked, behind-links-reads.Learnt, walk-node-below t, walk-node.Post, is-replaced-reads.Asked, is-replaced-reads.Learnt, leaves-before-reads.Asked, leaves-before-reads.Learnt, behind-child-below t, behind-child.Post, of-links-reads.Asked, of-links-reads.Learnt)
+    (t : ℕ) → substitute-single-use-symbol-in-expression-lts.Need-is-replaced-requires-2 (behind-links-reads.Asked, behind-links-reads.Learnt, walk-node-below t, walk-node.Post, is-replaced-reads.Asked, is-replaced-reads.Learnt, leaves-before-reads.Asked, leaves-before-reads.Learnt, behind-child-below t, behind-child.Post, gathered-reads.Asked, gathered-reads.Learnt)
     (substitute-single-use-symbol-in-expression-at t)
     substitute-single-use-symbol-in-expression.Post
     substitute-single-use-symbol-in-expression-Inv-loop
@@ -306,44 +353,44 @@ substitute-single-use-symbol-in-expression-is-replaced-requires-2 :
 substitute-single-use-symbol-in-expression-is-replaced-requires-2 t c κs = tt
 
 substitute-single-use-symbol-in-expression-loop-less :
-    (t : ℕ) → substitute-single-use-symbol-in-expression-lts.Need-loop-less (behind-links-reads.Asked, behind-links-reads.Learnt, walk-node-below t, walk-node.Post, is-replaced-reads.Asked, is-replaced-reads.Learnt, leaves-before-reads.Asked, leaves-before-reads.Learnt, behind-child-below t, behind-child.Post, of-links-reads.Asked, of-links-reads.Learnt)
+    (t : ℕ) → substitute-single-use-symbol-in-expression-lts.Need-loop-less (behind-links-reads.Asked, behind-links-reads.Learnt, walk-node-below t, walk-node.Post, is-replaced-reads.Asked, is-replaced-reads.Learnt, leaves-before-reads.Asked, leaves-before-reads.Learnt, behind-child-below t, behind-child.Post, gathered-reads.Asked, gathered-reads.Learnt)
     (substitute-single-use-symbol-in-expression-at t)
     substitute-single-use-symbol-in-expression.Post
     substitute-single-use-symbol-in-expression-Inv-loop
     substitute-single-use-symbol-in-expression-μ-loop
-substitute-single-use-symbol-in-expression-loop-less t c = (c .before .before .before .before .before .before .leaves-before) .ensures .sooner
+substitute-single-use-symbol-in-expression-loop-less t c = (c .before .before .before .before .before .before .before .leaves-before) .ensures .sooner
 
 substitute-single-use-symbol-in-expression-loop-again :
-    (t : ℕ) → substitute-single-use-symbol-in-expression-lts.Need-loop-again (behind-links-reads.Asked, behind-links-reads.Learnt, walk-node-below t, walk-node.Post, is-replaced-reads.Asked, is-replaced-reads.Learnt, leaves-before-reads.Asked, leaves-before-reads.Learnt, behind-child-below t, behind-child.Post, of-links-reads.Asked, of-links-reads.Learnt)
+    (t : ℕ) → substitute-single-use-symbol-in-expression-lts.Need-loop-again (behind-links-reads.Asked, behind-links-reads.Learnt, walk-node-below t, walk-node.Post, is-replaced-reads.Asked, is-replaced-reads.Learnt, leaves-before-reads.Asked, leaves-before-reads.Learnt, behind-child-below t, behind-child.Post, gathered-reads.Asked, gathered-reads.Learnt)
     (substitute-single-use-symbol-in-expression-at t)
     substitute-single-use-symbol-in-expression.Post
     substitute-single-use-symbol-in-expression-Inv-loop
     substitute-single-use-symbol-in-expression-μ-loop
-substitute-single-use-symbol-in-expression-loop-again t c = ((c .is-replaced2) .ensures, (c .before .before .before .before .behind-child) .kept .1 .1 .0 ∙ (c .before .before .before .before .before .before .before .before .before .before .loop) .inv .1, λ table₀ g₀. let g = (c .before .before .before .before .before .before .before .before .before .before .loop) .inv .2 table₀ g₀ in let (left, v) = within-child (contextOf (read ((c .before .before .before .before .before .before .before .before .before .before .before .before .before .before .before .before .before .before .before .before) .args .file .now))) ((c .before .before .before .before .before .before .before .before .before .before .before .before .before .before .before .before .before .before .before .before) .args .s) ((c .before .before .before .before .before .before .before .before .before .before .before .before .before .before .before .before .before .before .before .before) .pre .1 .1 .1 .1) g (ltb-true ((c .before .before .before .before .before .before .before .before .before .before .before .before .before .before .before .before .before .before .before .before) .args .at .0) ((c .before .before .before .before .before .before .before .before .before .before .loop) .i) (and-right (not ((c .before .before .before .before .before .before .before .before .before .before .loop) .replaced)) (ltb ((c .before .before .before .before .before .before .before .before .before .before .before .before .before .before .before .before .before .before .before .before) .args .at .0) ((c .before .before .before .before .before .before .before .before .before .before .loop) .i)) ((c .before .before .before .before .before .before .before .before .if1) .taken))) ((c .before .before .before .before .before .before .leaves-before) .result) ((c .before .before .before .before .before .before .leaves-before) .ensures) (sym ((c .before .before .before .before .before .before .before .before .before .before .loop) .inv .0) ∙ not-true ((c .before .before .before .before .before .before .before .before .before .before .loop) .replaced) (and-left (not ((c .before .before .before .before .before .before .before .before .before .before .loop) .replaced)) (ltb ((c .before .before .before .before .before .before .before .before .before .before .before .before .before .before .before .before .before .before .before .before) .args .at .0) ((c .before .before .before .before .before .before .before .before .before .before .loop) .i)) ((c .before .before .before .before .before .before .before .before .if1) .taken))) in within-link (contextOf (read ((c .before .before .before .before .before .before .before .before .before .before .before .before .before .before .before .before .before .before .before .before) .args .file .now))) ((c .before .before .before .before .before .before .before .before .before .before .before .before .before .before .before .before .before .before .before .before) .args .s) ((c .before .before .before .before .before .before .before .before .before .before .before .before .before .before .before .before .before .before .before .before) .pre .1 .1 .1 .1) g (ltb-true ((c .before .before .before .before .before .before .before .before .before .before .before .before .before .before .before .before .before .before .before .before) .args .at .0) ((c .before .before .before .before .before .before .before .before .before .before .loop) .i) (and-right (not ((c .before .before .before .before .before .before .before .before .before .before .loop) .replaced)) (ltb ((c .before .before .before .before .before .before .before .before .before .before .before .before .before .before .before .before .before .before .before .before) .args .at .0) ((c .before .before .before .before .before .before .before .before .before .before .loop) .i)) ((c .before .before .before .before .before .before .before .before .if1) .taken))) ((c .before .before .before .before .before .before .leaves-before) .result) ((c .before .before .before .before .before .before .leaves-before) .ensures) ((c .before .before .before .before .behind-child) .ensures table₀ left v) ((c .before .before .before .before .behind-child) .kept .1 .1 .0))
+substitute-single-use-symbol-in-expression-loop-again t c = ((c .is-replaced2) .ensures, (c .before .before .before .before .before .behind-child) .kept .1 .1 .0 ∙ (c .before .before .before .before .before .before .before .before .before .before .before .loop) .inv .1, λ table₀ g₀. let g = (c .before .before .before .before .before .before .before .before .before .before .before .loop) .inv .2 table₀ g₀ in let (left, v) = within-child (contextOf (read ((c .before .before .before .before .before .before .before .before .before .before .before .before .before .before .before .before .before .before .before .before .before .before) .args .file .now))) ((c .before .before .before .before .before .before .before .before .before .before .before .before .before .before .before .before .before .before .before .before .before .before) .args .s) ((c .before .before .before .before .before .before .before .before .before .before .before .before .before .before .before .before .before .before .before .before .before .before) .pre .1 .1 .1 .1) g (ltb-true ((c .before .before .before .before .before .before .before .before .before .before .before .before .before .before .before .before .before .before .before .before .before .before) .args .at .0) ((c .before .before .before .before .before .before .before .before .before .before .before .loop) .i) (and-right (not ((c .before .before .before .before .before .before .before .before .before .before .before .loop) .replaced)) (ltb ((c .before .before .before .before .before .before .before .before .before .before .before .before .before .before .before .before .before .before .before .before .before .before) .args .at .0) ((c .before .before .before .before .before .before .before .before .before .before .before .loop) .i)) ((c .before .before .before .before .before .before .before .before .before .if1) .taken))) ((c .before .before .before .before .before .before .before .leaves-before) .result) ((c .before .before .before .before .before .before .before .leaves-before) .ensures) (sym ((c .before .before .before .before .before .before .before .before .before .before .before .loop) .inv .0) ∙ not-true ((c .before .before .before .before .before .before .before .before .before .before .before .loop) .replaced) (and-left (not ((c .before .before .before .before .before .before .before .before .before .before .before .loop) .replaced)) (ltb ((c .before .before .before .before .before .before .before .before .before .before .before .before .before .before .before .before .before .before .before .before .before .before) .args .at .0) ((c .before .before .before .before .before .before .before .before .before .before .before .loop) .i)) ((c .before .before .before .before .before .before .before .before .before .if1) .taken))) in within-link (contextOf (read ((c .before .before .before .before .before .before .before .before .before .before .before .before .before .before .before .before .before .before .before .before .before .before) .args .file .now))) ((c .before .before .before .before .before .before .before .before .before .before .before .before .before .before .before .before .before .before .before .before .before .before) .args .s) ((c .before .before .before .before .before .before .before .before .before .before .before .before .before .before .before .before .before .before .before .before .before .before) .pre .1 .1 .1 .1) g (ltb-true ((c .before .before .before .before .before .before .before .before .before .before .before .before .before .before .before .before .before .before .before .before .before .before) .args .at .0) ((c .before .before .before .before .before .before .before .before .before .before .before .loop) .i) (and-right (not ((c .before .before .before .before .before .before .before .before .before .before .before .loop) .replaced)) (ltb ((c .before .before .before .before .before .before .before .before .before .before .before .before .before .before .before .before .before .before .before .before .before .before) .args .at .0) ((c .before .before .before .before .before .before .before .before .before .before .before .loop) .i)) ((c .before .before .before .before .before .before .before .before .before .if1) .taken))) ((c .before .before .before .before .before .before .before .leaves-before) .result) ((c .before .before .before .before .before .before .before .leaves-before) .ensures) ((c .before .before .before .before .before .behind-child) .ensures table₀ left v) ((c .before .before .before .before .before .behind-child) .kept .1 .1 .0))
 
-substitute-single-use-symbol-in-expression-of-links-requires :
-    (t : ℕ) → substitute-single-use-symbol-in-expression-lts.Need-of-links-requires (behind-links-reads.Asked, behind-links-reads.Learnt, walk-node-below t, walk-node.Post, is-replaced-reads.Asked, is-replaced-reads.Learnt, leaves-before-reads.Asked, leaves-before-reads.Learnt, behind-child-below t, behind-child.Post, of-links-reads.Asked, of-links-reads.Learnt)
+substitute-single-use-symbol-in-expression-gathered-requires :
+    (t : ℕ) → substitute-single-use-symbol-in-expression-lts.Need-gathered-requires (behind-links-reads.Asked, behind-links-reads.Learnt, walk-node-below t, walk-node.Post, is-replaced-reads.Asked, is-replaced-reads.Learnt, leaves-before-reads.Asked, leaves-before-reads.Learnt, behind-child-below t, behind-child.Post, gathered-reads.Asked, gathered-reads.Learnt)
     (substitute-single-use-symbol-in-expression-at t)
     substitute-single-use-symbol-in-expression.Post
     substitute-single-use-symbol-in-expression-Inv-loop
     substitute-single-use-symbol-in-expression-μ-loop
-substitute-single-use-symbol-in-expression-of-links-requires t c κs = ((λ l. sym ((c .before .before .before .loop) .inv .0) ∙ not-false ((c .before .before .before .loop) .replaced) (ended (not ((c .before .before .before .loop) .replaced)) ((c .before .before .before .before .before .before .before .before .before .before .before .before .before) .args .at .0) ((c .before .before .before .loop) .i) ((c .before .if1) .left) l)), ((contextOf (read ((c .before .before .before .before .before .before .before .before .before .before .before .before .before) .args .file .now))), ((c .before .before .before .before .before .before .before .before .before .before .before .before .before) .args .s), ((c .before .before .before .before .before .before .before .before .before .before .before .before .before) .pre .1 .1 .1 .1), (c .before .before .before .before .before .before .before .before .before .before .before .before .before) .args .nodes .now, ((c .before .before .before .loop) .inv .2 ((c .before .before .before .before .before .before .before .before .before .before .before .before .before) .args .nodes .now) (record { later = (c .before .before .before .before .before .before .before .before .before .behind-links) .ensures .0; links = (c .before .before .before .before .before .before .before .before .before .behind-links) .ensures .1; here = (c .before .before .before .before .before .before .before .before .before .behind-links) .ensures .2; did = (c .before .before .before .before .before .before .before .walk-node) .ensures; same = (c .before .before .before .before .before .before .before .walk-node) .kept .1 .1 .0 }))))
+substitute-single-use-symbol-in-expression-gathered-requires t c κs = let g = (c .before .before .loop) .inv .2 ((c .before .before .before .before .before .before .before .before .before .before .before .before .before) .args .nodes .now) (record { links = (c .before .before .before .before .before .before .before .before .before .behind-links) .ensures .links; here = (c .before .before .before .before .before .before .before .before .before .behind-links) .ensures .here; did = (c .before .before .before .before .before .before .walk-node) .ensures; same = (c .before .before .before .before .before .before .walk-node) .kept .1 .1 .0 }) in omega (arith, within-looks (contextOf (read ((c .before .before .before .before .before .before .before .before .before .before .before .before .before) .args .file .now))) ((c .before .before .before .before .before .before .before .before .before .before .before .before .before) .args .s) ((c .before .before .before .before .before .before .before .before .before .before .before .before .before) .pre .1 .1 .1 .1) g, (c .before .before .loop) .inv .1, (c .before .before .before .before .before .before .walk-node) .kept .1 .1 .0, (c .before .before .before .before .before .before .before .before .before .before .before .before .before) .good .1 .1 .0)
 
 substitute-single-use-symbol-in-expression-same-length :
-    (t : ℕ) → substitute-single-use-symbol-in-expression-lts.Need-same-length (behind-links-reads.Asked, behind-links-reads.Learnt, walk-node-below t, walk-node.Post, is-replaced-reads.Asked, is-replaced-reads.Learnt, leaves-before-reads.Asked, leaves-before-reads.Learnt, behind-child-below t, behind-child.Post, of-links-reads.Asked, of-links-reads.Learnt)
+    (t : ℕ) → substitute-single-use-symbol-in-expression-lts.Need-same-length (behind-links-reads.Asked, behind-links-reads.Learnt, walk-node-below t, walk-node.Post, is-replaced-reads.Asked, is-replaced-reads.Learnt, leaves-before-reads.Asked, leaves-before-reads.Learnt, behind-child-below t, behind-child.Post, gathered-reads.Asked, gathered-reads.Learnt)
     (substitute-single-use-symbol-in-expression-at t)
     substitute-single-use-symbol-in-expression.Post
     substitute-single-use-symbol-in-expression-Inv-loop
     substitute-single-use-symbol-in-expression-μ-loop
-substitute-single-use-symbol-in-expression-same-length t c = omega (arith, (c .before .before .of-links) .kept .0, (c .before .before .before .before .before .before .loop) .inv .1, (c .before .before .before .before .before .before .before .before .before .before .walk-node) .kept .1 .1 .0)
+substitute-single-use-symbol-in-expression-same-length t c = omega (arith, (c .before .before .before .loop) .inv .1, (c .before .before .before .before .before .before .before .walk-node) .kept .1 .1 .0)
 
 substitute-single-use-symbol-in-expression-returns :
-    (t : ℕ) → substitute-single-use-symbol-in-expression-lts.Need-returns (behind-links-reads.Asked, behind-links-reads.Learnt, walk-node-below t, walk-node.Post, is-replaced-reads.Asked, is-replaced-reads.Learnt, leaves-before-reads.Asked, leaves-before-reads.Learnt, behind-child-below t, behind-child.Post, of-links-reads.Asked, of-links-reads.Learnt)
+    (t : ℕ) → substitute-single-use-symbol-in-expression-lts.Need-returns (behind-links-reads.Asked, behind-links-reads.Learnt, walk-node-below t, walk-node.Post, is-replaced-reads.Asked, is-replaced-reads.Learnt, leaves-before-reads.Asked, leaves-before-reads.Learnt, behind-child-below t, behind-child.Post, gathered-reads.Asked, gathered-reads.Learnt)
     (substitute-single-use-symbol-in-expression-at t)
     substitute-single-use-symbol-in-expression.Post
     substitute-single-use-symbol-in-expression-Inv-loop
     substitute-single-use-symbol-in-expression-μ-loop
-substitute-single-use-symbol-in-expression-returns t c = (c .before .before .of-links) .ensures (contextOf (read ((c .before .before .before .before .before .before .before .before .before .before .before .before .before .before .before .before) .args .file .now))) ((c .before .before .before .before .before .before .before .before .before .before .before .before .before .before .before .before) .args .s) ((c .before .before .before .before .before .before .before .before .before .before .before .before .before .before .before .before) .pre .1 .1 .1 .1) ((c .before .before .before .before .before .before .before .before .before .before .before .before .before .before .before .before) .args .nodes .now) ((c .before .before .before .before .before .before .loop) .inv .2 ((c .before .before .before .before .before .before .before .before .before .before .before .before .before .before .before .before) .args .nodes .now) (record { later = (c .before .before .before .before .before .before .before .before .before .before .before .before .behind-links) .ensures .0; links = (c .before .before .before .before .before .before .before .before .before .before .before .before .behind-links) .ensures .1; here = (c .before .before .before .before .before .before .before .before .before .before .before .before .behind-links) .ensures .2; did = (c .before .before .before .before .before .before .before .before .before .before .walk-node) .ensures; same = (c .before .before .before .before .before .before .before .before .before .before .walk-node) .kept .1 .1 .0 }))
+substitute-single-use-symbol-in-expression-returns t c = let g = (c .before .before .before .loop) .inv .2 ((c .before .before .before .before .before .before .before .before .before .before .before .before .before .before) .args .nodes .now) (record { links = (c .before .before .before .before .before .before .before .before .before .before .behind-links) .ensures .links; here = (c .before .before .before .before .before .before .before .before .before .before .behind-links) .ensures .here; did = (c .before .before .before .before .before .before .before .walk-node) .ensures; same = (c .before .before .before .before .before .before .before .walk-node) .kept .1 .1 .0 }) in subst (Searches (contextOf (read ((c .before .before .before .before .before .before .before .before .before .before .before .before .before .before) .args .file .now))) ((c .before .before .before .before .before .before .before .before .before .before .before .before .before .before) .args .s) ((c .before .before .before .before .before .before .before .before .before .before .before .before .before .before) .args .nodes .now) _ ((c .before .before .before .before .before .before .before .before .before .before .before .before .before .before) .args .at .0)) (sym ((c .gathered) .ensures)) (within-all (contextOf (read ((c .before .before .before .before .before .before .before .before .before .before .before .before .before .before) .args .file .now))) ((c .before .before .before .before .before .before .before .before .before .before .before .before .before .before) .args .s) ((c .before .before .before .before .before .before .before .before .before .before .before .before .before .before) .pre .1 .1 .1 .1) g ((c .before .before .before .loop) .replaced) ((c .before .before .before .loop) .inv .0) ((c .before .if1) .left))
 
 walk-item-work-node-requires : (t : ℕ) → walk-item-lts.Need-work-node-requires (work-node-reads.Asked, work-node-reads.Learnt, is-leaf-reads.Asked, is-leaf-reads.Learnt, is-specific-id-reads.Asked, is-specific-id-reads.Learnt, of-leaf-reads.Asked, of-leaf-reads.Learnt, is-link-reads.Asked, is-link-reads.Learnt, has-effect-reads.Asked, has-effect-reads.Learnt, leaf-effect-reads.Asked, leaf-effect-reads.Learnt, moves-leaf-reads.Asked, moves-leaf-reads.Learnt, moves-link-reads.Asked, moves-link-reads.Learnt, own-looks-reads.Asked, own-looks-reads.Learnt, leaf-looks-reads.Asked, leaf-looks-reads.Learnt, passed-reads.Asked, passed-reads.Learnt, substitute-single-use-symbol-in-expression-below t, substitute-single-use-symbol-in-expression.Post) (walk-item-at t) walk-item.Post
 walk-item-work-node-requires t c κs = searchable-room ((c .before .before .before) .pre .1 .1 .1 .0)
@@ -370,7 +417,7 @@ walk-item-add-t19 : (t : ℕ) → walk-item-lts.Need-add-t19 (work-node-reads.As
 walk-item-add-t19 t c = omega (arith, searchable-room ((c .before .before .before .before .before .before .before .before .before .before .before .before) .pre .1 .1 .1 .0), (c .before .before .before .before .before .before .before .before .before .before .before .before) .good .1 .1 .0)
 
 walk-item-work-node-requires-2 : (t : ℕ) → walk-item-lts.Need-work-node-requires-2 (work-node-reads.Asked, work-node-reads.Learnt, is-leaf-reads.Asked, is-leaf-reads.Learnt, is-specific-id-reads.Asked, is-specific-id-reads.Learnt, of-leaf-reads.Asked, of-leaf-reads.Learnt, is-link-reads.Asked, is-link-reads.Learnt, has-effect-reads.Asked, has-effect-reads.Learnt, leaf-effect-reads.Asked, leaf-effect-reads.Learnt, moves-leaf-reads.Asked, moves-leaf-reads.Learnt, moves-link-reads.Asked, moves-link-reads.Learnt, own-looks-reads.Asked, own-looks-reads.Learnt, leaf-looks-reads.Asked, leaf-looks-reads.Learnt, passed-reads.Asked, passed-reads.Learnt, substitute-single-use-symbol-in-expression-below t, substitute-single-use-symbol-in-expression.Post) (walk-item-at t) walk-item.Post
-walk-item-work-node-requires-2 t c κs = child-room (contextOf (read ((c .before .before .before .before .before .before .before .before .before .before .before .before) .args .file .now))) ((c .before .before .before .before .before .before .before .before .before .before .before .before) .args .s) (reaches-first (contextOf (read ((c .before .before .before .before .before .before .before .before .before .before .before .before) .args .file .now))) ((c .before .before .before .before .before .before .before .before .before .before .before .before) .args .s) ((c .before .before .before .before .before .before .before .before .work-node) .result) ((c .before .before .before .before .before .before .before .before .work-node) .ensures) ((c .before .before .before .before .before .before .before .before .before .before .before .before) .pre .1 .1 .1 .0) ((c .before .before .before .is-link) .ensures ((both (eqb ((c .before .before .before .before .before .before .before .before .work-node) .result .children) 1) ((c .before .before .before .is-link) .result) ((c .before .before .if2) .taken)) .1)) ((c .before .before .before .before .before .before .before .before .work-node) .result .children) refl)
+walk-item-work-node-requires-2 t c κs = searchable-room (first-searchable (children-row ((c .before .before .before .before .before .before .before .before .before .before .before .before) .pre .1 .1 .1 .0)) (λ z. omega (arith, z, ap (λ x. x .children) ((c .before .before .before .before .before .before .before .before .work-node) .ensures), eqb-true ((c .before .before .before .before .before .before .before .before .work-node) .result .children) 1 ((both (eqb ((c .before .before .before .before .before .before .before .before .work-node) .result .children) 1) ((c .before .before .before .is-link) .result) ((c .before .before .if2) .taken)) .0))))
 
 walk-item-has-effect-requires : (t : ℕ) → walk-item-lts.Need-has-effect-requires (work-node-reads.Asked, work-node-reads.Learnt, is-leaf-reads.Asked, is-leaf-reads.Learnt, is-specific-id-reads.Asked, is-specific-id-reads.Learnt, of-leaf-reads.Asked, of-leaf-reads.Learnt, is-link-reads.Asked, is-link-reads.Learnt, has-effect-reads.Asked, has-effect-reads.Learnt, leaf-effect-reads.Asked, leaf-effect-reads.Learnt, moves-leaf-reads.Asked, moves-leaf-reads.Learnt, moves-link-reads.Asked, moves-link-reads.Learnt, own-looks-reads.Asked, own-looks-reads.Learnt, leaf-looks-reads.Asked, leaf-looks-reads.Learnt, passed-reads.Asked, passed-reads.Learnt, substitute-single-use-symbol-in-expression-below t, substitute-single-use-symbol-in-expression.Post) (walk-item-at t) walk-item.Post
 walk-item-has-effect-requires t c κs = tt
@@ -422,7 +469,7 @@ walk-item-returns-3 : (t : ℕ) → walk-item-lts.Need-returns-3 (work-node-read
 walk-item-returns-3 t c = (c .before .before .substitute-single-use-symbol-in-expression) .ensures
 
 abbrev walk-list-Inv-loop : walk-list-lts.InvT-loop
-walk-list-Inv-loop file h nodes₀ many s next₀ left₀ now₀ effect₀ looks₀ nodes next left now effect looks = (length nodes ≡ length nodes₀) × Goes (contextOf (read file)) s nodes₀ (next₀ .0) many now₀ nodes (next .0) left now effect looks
+walk-list-Inv-loop file h nodes₀ many s next₀ left₀ now₀ effect₀ looks₀ nodes next left now effect looks = (length nodes ≡ length nodes₀) × Goes (contextOf (read file)) s (OfRow (contextOf (read file)) s nodes₀ (next₀ .0) many now₀) (next₀ .0) nodes (next .0) left now effect looks
 
 abbrev walk-list-μ-loop : walk-list-lts.MeasureT-loop
 walk-list-μ-loop file h nodes₀ many s next₀ left₀ now₀ effect₀ looks₀ nodes next left now effect looks = left
@@ -623,37 +670,47 @@ pub +behind-child+substitute-single-use-symbol-in-expression+walk-item+walk-list
     μ-walk-item
     μ-walk-list
     μ-walk-node
-    (λ t. behind-child-lts.spec (work-node-reads.Asked, work-node-reads.Learnt, size-reads.Asked, size-reads.Learnt, is-passed-reads.Asked, is-passed-reads.Learnt, pass-row-reads.Asked, pass-row-reads.Learnt, stopped-reads.Asked, stopped-reads.Learnt, gathered-reads.Asked, gathered-reads.Learnt, of-answered-reads.Asked, of-answered-reads.Learnt, of-passed-reads.Asked, of-passed-reads.Learnt, link-plan-reads.Asked, link-plan-reads.Learnt, next-plan-reads.Asked, next-plan-reads.Learnt, walk-list-below t, walk-list.Post)
+    (λ t. behind-child-lts.spec (work-node-reads.Asked, work-node-reads.Learnt, size-reads.Asked, size-reads.Learnt, link-plan-reads.Asked, link-plan-reads.Learnt, plan-behind-reads.Asked, plan-behind-reads.Learnt, is-passed-reads.Asked, is-passed-reads.Learnt, is-branches-reads.Asked, is-branches-reads.Learnt, walk-list-below t, walk-list.Post, either-reads.Asked, either-reads.Learnt, gathered-reads.Asked, gathered-reads.Learnt, of-answered-reads.Asked, of-answered-reads.Learnt, pass-row-reads.Asked, pass-row-reads.Learnt, stopped-reads.Asked, stopped-reads.Learnt, of-passed-reads.Asked, of-passed-reads.Learnt, next-plan-reads.Asked, next-plan-reads.Learnt)
     (behind-child-at t)
     behind-child.Post
     (behind-child-work-node-requires t)
     (behind-child-size-requires t)
     (behind-child-add-left t)
     (behind-child-sub-left t)
+    (behind-child-link-plan-requires t)
+    (behind-child-sub-plan-behind t)
+    (behind-child-sub-plan-behind-2 t)
+    (behind-child-plan-behind-requires t)
     (behind-child-is-passed-requires t)
-    (behind-child-pass-row-requires t)
-    (behind-child-stopped-requires t)
+    (behind-child-is-branches-requires t)
+    (behind-child-walk-list-requires t)
+    (behind-child-either-requires t)
     (behind-child-gathered-requires t)
     (behind-child-of-answered-requires t)
     (behind-child-same-length t)
     (behind-child-returns t)
+    (behind-child-pass-row-requires t)
+    (behind-child-stopped-requires t)
     (behind-child-gathered-requires-2 t)
-    (behind-child-of-passed-requires t)
+    (behind-child-of-answered-requires-2 t)
     (behind-child-same-length-2 t)
     (behind-child-returns-2 t)
-    (behind-child-link-plan-requires t)
-    (behind-child-next-plan-requires t)
-    (behind-child-walk-list-requires t)
-    (behind-child-add-gathered t)
     (behind-child-gathered-requires-3 t)
-    (behind-child-is-passed-requires-2 t)
-    (behind-child-of-passed-requires-2 t)
+    (behind-child-of-passed-requires t)
     (behind-child-same-length-3 t)
     (behind-child-returns-3 t)
-    (behind-child-of-answered-requires-2 t)
+    (behind-child-next-plan-requires t)
+    (behind-child-walk-list-requires-2 t)
+    (behind-child-add-gathered t)
+    (behind-child-gathered-requires-4 t)
+    (behind-child-is-passed-requires-2 t)
+    (behind-child-of-passed-requires-2 t)
     (behind-child-same-length-4 t)
-    (behind-child-returns-4 t))
-    (λ t. substitute-single-use-symbol-in-expression-lts.spec (behind-links-reads.Asked, behind-links-reads.Learnt, walk-node-below t, walk-node.Post, is-replaced-reads.Asked, is-replaced-reads.Learnt, leaves-before-reads.Asked, leaves-before-reads.Learnt, behind-child-below t, behind-child.Post, of-links-reads.Asked, of-links-reads.Learnt)
+    (behind-child-returns-4 t)
+    (behind-child-of-answered-requires-3 t)
+    (behind-child-same-length-5 t)
+    (behind-child-returns-5 t))
+    (λ t. substitute-single-use-symbol-in-expression-lts.spec (behind-links-reads.Asked, behind-links-reads.Learnt, walk-node-below t, walk-node.Post, is-replaced-reads.Asked, is-replaced-reads.Learnt, leaves-before-reads.Asked, leaves-before-reads.Learnt, behind-child-below t, behind-child.Post, gathered-reads.Asked, gathered-reads.Learnt)
     (substitute-single-use-symbol-in-expression-at t)
     substitute-single-use-symbol-in-expression.Post
     substitute-single-use-symbol-in-expression-Inv-loop
@@ -664,10 +721,12 @@ pub +behind-child+substitute-single-use-symbol-in-expression+walk-item+walk-list
     (substitute-single-use-symbol-in-expression-loop-holds t)
     (substitute-single-use-symbol-in-expression-leaves-before-requires t)
     (substitute-single-use-symbol-in-expression-behind-child-requires t)
+    (substitute-single-use-symbol-in-expression-add-looks t)
+    (substitute-single-use-symbol-in-expression-sub-looks t)
     (substitute-single-use-symbol-in-expression-is-replaced-requires-2 t)
     (substitute-single-use-symbol-in-expression-loop-less t)
     (substitute-single-use-symbol-in-expression-loop-again t)
-    (substitute-single-use-symbol-in-expression-of-links-requires t)
+    (substitute-single-use-symbol-in-expression-gathered-requires t)
     (substitute-single-use-symbol-in-expression-same-length t)
     (substitute-single-use-symbol-in-expression-returns t))
     (λ t. walk-item-lts.spec (work-node-reads.Asked, work-node-reads.Learnt, is-leaf-reads.Asked, is-leaf-reads.Learnt, is-specific-id-reads.Asked, is-specific-id-reads.Learnt, of-leaf-reads.Asked, of-leaf-reads.Learnt, is-link-reads.Asked, is-link-reads.Learnt, has-effect-reads.Asked, has-effect-reads.Learnt, leaf-effect-reads.Asked, leaf-effect-reads.Learnt, moves-leaf-reads.Asked, moves-leaf-reads.Learnt, moves-link-reads.Asked, moves-link-reads.Learnt, own-looks-reads.Asked, own-looks-reads.Learnt, leaf-looks-reads.Asked, leaf-looks-reads.Learnt, passed-reads.Asked, passed-reads.Learnt, substitute-single-use-symbol-in-expression-below t, substitute-single-use-symbol-in-expression.Post)

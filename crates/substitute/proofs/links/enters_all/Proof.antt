@@ -1,3 +1,6 @@
+use mathlib.Core.Bool.{false}
+use mathlib.Core.Path.{refl}
+use Rattle.records.proofs.Tests.{clash}
 use Rattle.substitute.proofs.LinkKinds.{enters-all-is}
 use Rattle.substitute.proofs.links.enters_all.Statement.{statement}
 use Rattle.substitute.proofs.links.enters_all.Tie as tie
@@ -5,7 +8,13 @@ use Rattle.substitute.proofs.links.enters_all.Reads as reads
 use Rattle.substitute.proofs.links.enters_all.Lts as lts
 
 returns : tie.Need-returns
-returns c = λ h. enters-all-is ((c .before .before .before .before .before .before) .args .n) ((c .before .before .before .before .before .before) .args .s) h
+returns c = λ h. clash false refl h
+
+returns-2 : tie.Need-returns-2
+returns-2 c = λ h. clash false refl h
+
+returns-3 : tie.Need-returns-3
+returns-3 c = λ h. enters-all-is ((c .before .before .before .before .before .before .before .before .before) .args .n) ((c .before .before .before .before .before .before .before .before .before) .args .s) ((c .before .before .if2) .left) h
 
 pub enters-all-spec : {M : Type 1} → statement M
-enters-all-spec = tie.close (tie.spec returns)
+enters-all-spec = tie.close (tie.spec returns returns-2 returns-3)
