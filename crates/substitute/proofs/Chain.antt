@@ -37,7 +37,7 @@ use Rattle.plans.specs.Search.{Searchable, SearchableRow, Did, passes, stops, r
 use Rattle.plans.proofs.Behind.{found-same}
 use Rattle.substitute.specs.declared.descent.Before.{Before}
 use Rattle.substitute.specs.OfNode.{behind, gather, OfNode, leafKind, isLeaf}
-use Rattle.substitute.specs.Links.{linkPlan, planBehind, IsLink, Goes, OfChildren, Steady, Leaves, no-leaves, one-more, planAt, Reaches, Links, start, link, SomeNode, LeavesBefore, Within, ChildSearched}
+use Rattle.substitute.specs.Links.{linkPlan, linkLooks, planBehind, IsLink, Goes, OfChildren, Steady, Leaves, no-leaves, one-more, planAt, Reaches, Links, start, link, SomeNode, LeavesBefore, Within, ChildSearched}
 use Rattle.substitute.proofs.Row.{wrong, row-replaced, row-stopped, row-either}
 use Rattle.substitute.proofs.Nodes.{one-searched, others-searchable, looks-in-room}
 use Rattle.substitute.proofs.Searching.{searchable-room, first-searchable, bare-node, node-is}
@@ -72,7 +72,7 @@ plan-enters s (steps cuts) = by-test isNothing (s .effect) All refl refl
 plan-enters s (steps picks) = by-test isNothing (s .effect) Test refl refl
 
 -- A link, by its shape.
-module _ (n : NodeRecord) (s : Sought) (some : n .children ≡ 0 → ⊥) (other : is 4 (nodeOf n) ≡ false) (kept : cleared (nodeOf n) .flags ≡ n .flags) where
+module _ (n : NodeRecord) (s : Sought) (some : n .children ≡ 0 → ⊥) (other : is 4 (nodeOf n) ≡ false) (kept : cleared (nodeOf n) .flags ≡ n .flags) (looks : linkLooks n ≡ ownLooks (nodeOf n)) where
   by-choice : (ctx : Context) (name : ℕ) (replacement : Tree) → Describes s replacement → (c : Choice) (kids : Trees) → keepsCallee replacement (nodeOf n) kids ≡ false → keepsIndirect name replacement (nodeOf n) kids ≡ false
       → planned (linkPlan s (steps c)) ≡ plan ctx name replacement (steps c) (nodeOf n) kids
   unfolding plan planFor
@@ -87,6 +87,7 @@ module _ (n : NodeRecord) (s : Sought) (some : n .children ≡ 0 → ⊥) (other
     some = some;
     other = other;
     kept = kept;
+    looks = looks;
     steady = λ ctx replacement kids. sym (ap (λ x. stopsIn ctx replacement x kids) e);
     enters = λ ctx replacement d kids. subst (λ x. planned (linkPlan s x) ≡ plan ctx (s .name .0) replacement x (nodeOf n) kids) (sym e) (by-choice ctx (s .name .0) replacement d c kids (k replacement d kids) (i (s .name .0) replacement d kids));
   }
@@ -97,6 +98,7 @@ module _ (n : NodeRecord) (s : Sought) (some : n .children ≡ 0 → ⊥) (other
     some = some;
     other = other;
     kept = kept;
+    looks = looks;
     steady = λ ctx replacement kids. t ctx replacement kids ∙ sym (ap (λ y. stopsIn ctx replacement y kids) e);
     enters = λ ctx replacement d kids. subst (λ y. planned (linkPlan s y) ≡ plan ctx (s .name .0) replacement y (nodeOf n) kids) (sym e) (w ctx (s .name .0) replacement kids);
   }

@@ -24,7 +24,7 @@ use Rattle.plans.specs.Begins.{BeginsAt}
 use Rattle.plans.specs.Described.{Known}
 use Rattle.plans.specs.Search.{Searchable, Searches, SearchesRow}
 use Rattle.substitute.specs.OfNode.{gather, isLeaf, movesLeaf, passesName, PassedLeaf}
-use Rattle.substitute.specs.Links.{linkPlan, nextOf, planBehind, onward, IsLink, Goes, OfChildren, no-leaves, one-more, planAt, Reaches, EntersAt, Links, start, link, LinksTo, Going, begun, through}
+use Rattle.substitute.specs.Links.{linkPlan, linkLooks, nextOf, planBehind, onward, IsLink, Goes, OfChildren, no-leaves, one-more, planAt, Reaches, EntersAt, Links, start, link, LinksTo, Going, begun, through}
 use Rattle.substitute.proofs.Leaves.{leaf-by}
 use Rattle.substitute.proofs.Searching.{searchable-room, first-searchable}
 use Rattle.substitute.proofs.Nodes.{begun-row}
@@ -73,6 +73,7 @@ module _ (ctx : Context) (s : Sought) {table : List ℕ} {at : ℕ} where
         children = m .some;
         other = m .other;
         kept = m .kept;
+        own = m .looks;
         steady = link-steady ctx s n e l;
         later = omega arith;
         leaves = no-leaves refl;
@@ -113,6 +114,7 @@ module _ (ctx : Context) (s : Sought) {table : List ℕ} {at : ℕ} where
           children = g .children;
           other = g .other;
           kept = g .kept;
+          own = g .own;
           steady = g .steady;
           later = omega (arith, g .later);
           leaves = one-more refl (subst (λ x. isLeaf x ≡ true) e (l .bare)) (g .leaves);
@@ -142,10 +144,10 @@ module _ (ctx : Context) (s : Sought) {table : List ℕ} {at next left : ℕ} {a
       (child-here ctx s x, subst (Going ctx s table at (next + 1) (left - 1) above) z (through e x ls))
 
   -- down through a node
-  pub going-down : {looks : ℕ} → Going ctx s table at next left above looks → (n : NodeRecord) → n ≡ nodeAt table (16 * next) → (far : ℕ) → EntersAt ctx s table next far → (own : ℕ) → own ≡ ownLooks (nodeOf n)
+  pub going-down : {looks : ℕ} → Going ctx s table at next left above looks → (n : NodeRecord) → n ≡ nodeAt table (16 * next) → (far : ℕ) → EntersAt ctx s table next far → (own : ℕ) → own ≡ linkLooks n
       → (many : ℕ) → many ≡ n .children → Searchable table (next + far) × Going ctx s table at (next + far) (many + 1 - far) n (looks + own)
   going-down {looks} g n f far x own o many c =
-      let z : looks + (ownLooks (nodeOf (nodeAt table (16 * next))) + 0) ≡ looks + own = omega (arith, o, ap (λ y. ownLooks (nodeOf y)) f) in
+      let z : looks + (ownLooks (nodeOf (nodeAt table (16 * next))) + 0) ≡ looks + own = omega (arith, o, ap linkLooks f, x .own) in
       let q : nodeAt table (16 * next) .children + 1 - far ≡ many + 1 - far = ap (λ y. y + 1 - far) (sym (c ∙ ap (λ y. y .children) f)) in
       (child-here ctx s x, subst (Going ctx s table at (next + far) (many + 1 - far) n) z (subst (λ k. Going ctx s table at (next + far) k n (looks + (ownLooks (nodeOf (nodeAt table (16 * next))) + 0))) q (through f x (going-links g))))
 

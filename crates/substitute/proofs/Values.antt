@@ -32,7 +32,7 @@ use Rattle.plans.specs.Search.{Searchable}
 use Rattle.plans.proofs.Beginning.{begins-behind}
 use Rattle.plans.proofs.Targets.{depends-name, stops-not, stops-depends}
 use Rattle.substitute.specs.OfNode.{leafKind, isLeaf}
-use Rattle.substitute.specs.Links.{linkPlan, planBehind, Goes, OfChildren, Steady, Leaves, no-leaves, one-more, planAt, EntersAt}
+use Rattle.substitute.specs.Links.{linkPlan, linkLooks, planBehind, Goes, OfChildren, Steady, Leaves, no-leaves, one-more, planAt, EntersAt}
 use Rattle.substitute.proofs.Leaves.{either-way}
 use Rattle.substitute.proofs.OfNode.{node-of}
 use Rattle.substitute.proofs.PlansBehind.{all-behind}
@@ -113,6 +113,10 @@ module _ (ctx : Context) (s : Sought) (table : List ℕ) (at : ℕ) (n : NodeRec
     unfolding nodeOf cleared
     no-property = rw kind refl
 
+    own-look : linkLooks n ≡ ownLooks (nodeOf n)
+    unfolding nodeOf ownLooks isExpression
+    own-look = rw kind refl
+
     -- the target is no look
     no-look : ownLooks (nodeOf target) ≡ 0
     unfolding nodeOf ownLooks isExpression
@@ -138,6 +142,7 @@ module _ (ctx : Context) (s : Sought) (table : List ℕ) (at : ℕ) (n : NodeRec
           children = λ z. omega (arith, z, c);
           other = subst (λ x. is 4 (nodeOf x) ≡ false) e no-name;
           kept = subst (λ x. cleared (nodeOf x) .flags ≡ x .flags) e no-property;
+          own = subst (λ x. linkLooks x ≡ ownLooks (nodeOf x)) e own-look;
           steady = steady;
           later = omega arith;
           leaves = one-leaf;

@@ -1,10 +1,11 @@
 -- Nodes each of which is a child of the one before, behind leaves, down to the one that is searched first.
 use Prim.Native.Nat.{ℕ, zero, suc, _+_, _-_, _*_, _≤_, _<_}
-use mathlib.Core.Bool.{Bool, true, false, cond, _||_}
+use mathlib.Core.Bool.{Bool, true, false, cond, _||_, not}
 use mathlib.Core.List.{List, _++_}
 use mathlib.Core.Path.{_≡_}
 use lib.ListN.{length}
 use lib.Dec.{eqb}
+use Rattle.records.specs.File.{one}
 use Rattle.records.specs.Record.{nodeAt}
 use Rattle.records.specs.Tree.{Node, Tree, Trees, node, count, recordOf, nodeOf}
 use Rattle.records.specs.declared.layout.NodeRecord.{NodeRecord}
@@ -77,11 +78,16 @@ onward Nothing = false
 onward Test = true
 onward Branches = true
 
+-- the look at a node that the search goes down through: a spread and a property are none
+abbrev pub linkLooks : NodeRecord → ℕ
+linkLooks n = one (not (eqb (n .kind) 25 || eqb (n .kind) 26))
+
 -- a node with children, the first of which is searched first; it is no name, no assignment and no shorthand
 pub record IsLink (n : NodeRecord) (s : Sought) : Type 0 where
   pub some : n .children ≡ 0 → ⊥
   pub other : is 4 (nodeOf n) ≡ false
   pub kept : cleared (nodeOf n) .flags ≡ n .flags
+  pub looks : linkLooks n ≡ ownLooks (nodeOf n)
   pub steady : (ctx : Context) (replacement : Tree) (kids : Trees) → false ≡ stopsIn ctx replacement (shape (nodeOf n)) kids
   pub enters : (ctx : Context) (replacement : Tree) → Describes s replacement → (kids : Trees) → planned (linkPlan s (shape (nodeOf n))) ≡ plan ctx (s .name .0) replacement (shape (nodeOf n)) (nodeOf n) kids
 
@@ -125,6 +131,7 @@ pub record Reaches (ctx : Context) (s : Sought) (table : List ℕ) (at child lef
   pub children : nodeAt table (16 * at) .children ≡ 0 → ⊥
   pub other : is 4 (nodeOf (nodeAt table (16 * at))) ≡ false
   pub kept : cleared (nodeOf (nodeAt table (16 * at))) .flags ≡ nodeAt table (16 * at) .flags
+  pub own : linkLooks (nodeAt table (16 * at)) ≡ ownLooks (nodeOf (nodeAt table (16 * at)))
   pub steady : Steady ctx s table at
   pub later : at < child
   pub leaves : Leaves table (at + 1) child effect looks

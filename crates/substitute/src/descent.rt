@@ -15,6 +15,7 @@ use crate::leaf::leaf_looks;
 use crate::leaf::passes_leaf;
 use crate::links::enters_all;
 use crate::links::is_link;
+use crate::links::link_looks;
 use crate::node::own_looks;
 use plans::sought::Sought;
 use records::layout::Header;
@@ -94,7 +95,7 @@ pub(crate) fn behind_links(file: &[u8], h: Header, nodes: &[u8], at: NodeId, s: 
             if step == 0 {
                 break;
             }
-            looks += own_looks(n);
+            looks += link_looks(n);
             next += step;
             left = size(n.children) + 1 - step;
             link = n;

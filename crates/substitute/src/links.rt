@@ -1,15 +1,17 @@
 // Nodes with children, the first of which is searched first.
 ghost use mathlib.Core.Bool.{true, cond};
 ghost use mathlib.Core.Path.{_≡_};
+ghost use Prim.Native.Nat.{_≤_};
 ghost use Rattle.records.specs.Tree.{nodeOf};
 ghost use Rattle.walk.specs.Shape.{shape};
 ghost use Rattle.plans.specs.declared.plan.Plan.the-variants.{First};
-ghost use Rattle.substitute.specs.Links.{linkPlan, linkKind, planBehind, onward, IsLink};
+ghost use Rattle.substitute.specs.Links.{linkPlan, linkKind, linkLooks, planBehind, onward, IsLink};
 use plans::plan::Plan;
 use plans::shape::Shape;
 use plans::shape::shape_of;
 use plans::sought::Sought;
 use records::layout::NodeRecord;
+use records::number::one;
 use records::number::wide;
 use records::number::wide16;
 
@@ -83,6 +85,13 @@ pub(crate) fn link_plan(n: NodeRecord, s: Sought) -> Plan
     }
 }
 
+// The look at a node that the search goes down through.
+pub(crate) fn link_looks(n: NodeRecord) -> usize
+    ensures { λ r. ⌜ (r ≡ linkLooks n) × (r ≤ 1) ⌝ }
+{
+    one(!((n.kind == 25) | (n.kind == 26)))
+}
+
 // The plan for the children behind so many.
 pub(crate) fn plan_behind(p: Plan, many: usize) -> Plan
     ensures { λ r. ⌜ r ≡ planBehind p many ⌝ }
@@ -112,8 +121,11 @@ pub(crate) fn enters_all(n: NodeRecord, s: Sought) -> bool
     if 3 < n.children {
         return false;
     }
-    if s.effect & choice {
+    if (n.kind == 25) | (n.kind == 26) {
         return false;
     }
-    !((n.kind == 25) | (n.kind == 26))
+    if s.effect {
+        return !choice;
+    }
+    true
 }

@@ -21,7 +21,7 @@ use Rattle.substitute.proofs.descent.distance.Reads as distance-reads
 use Rattle.substitute.proofs.leaf.leaf_looks.Reads as leaf-looks-reads
 use Rattle.substitute.proofs.leaf.passes_leaf.Reads as passes-leaf-reads
 use Rattle.substitute.proofs.links.enters_all.Reads as enters-all-reads
-use Rattle.substitute.proofs.node.own_looks.Reads as own-looks-reads
+use Rattle.substitute.proofs.links.link_looks.Reads as link-looks-reads
 use Rattle.table.proofs.work_node.Reads as work-node-reads
 
 abbrev Inv-loop : tie.InvT-loop
@@ -57,14 +57,14 @@ sub-left c = omega (arith, (c .before .before .before .before .before .if2) .lef
 distance-requires : tie.Need-distance-requires Inv-loop μ-loop
 distance-requires c κs = ((c .before .before .loop) .inv .1 .0, (c .before .before .loop) .inv .0)
 
-own-looks-requires : tie.Need-own-looks-requires Inv-loop μ-loop
-own-looks-requires c κs = tt
+link-looks-requires : tie.Need-link-looks-requires Inv-loop μ-loop
+link-looks-requires c κs = tt
 
 add-looks-2 : tie.Need-add-looks-2 Inv-loop μ-loop
-add-looks-2 c = omega (arith, (c .own-looks) .ensures .1, searchable-room ((c .before .before .before .before .before .loop) .inv .1 .0), going-seen (contextOf (read ((c .before .before .before .before .before .before .before .before .before) .args .file .now))) ((c .before .before .before .before .before .before .before .before .before) .args .s) ((c .before .before .before .before .before .loop) .inv .1 .1))
+add-looks-2 c = omega (arith, (c .link-looks) .ensures .1, searchable-room ((c .before .before .before .before .before .loop) .inv .1 .0), going-seen (contextOf (read ((c .before .before .before .before .before .before .before .before .before) .args .file .now))) ((c .before .before .before .before .before .before .before .before .before) .args .s) ((c .before .before .before .before .before .loop) .inv .1 .1))
 
 add-next-2 : tie.Need-add-next-2 Inv-loop μ-loop
-add-next-2 c = let x = (c .before .before .distance) .ensures ((c .before .if5) .left) (contextOf (read ((c .before .before .before .before .before .before .before .before .before) .args .file .now))) ((c .before .before .before .before .before .before .before .before .before) .pre .1 .1 .1) in omega (arith, searchable-room (going-down (contextOf (read ((c .before .before .before .before .before .before .before .before .before) .args .file .now))) ((c .before .before .before .before .before .before .before .before .before) .args .s) ((c .before .before .before .before .before .loop) .inv .1 .1) ((c .before .before .before .before .before .loop) .n) ((c .before .before .before .before .before .loop) .inv .0) ((c .before .before .distance) .result) x ((c .own-looks) .result) ((c .own-looks) .ensures .0) ((c .before .before .before .before .before .loop) .n .children) refl .0))
+add-next-2 c = let x = (c .before .before .distance) .ensures ((c .before .if5) .left) (contextOf (read ((c .before .before .before .before .before .before .before .before .before) .args .file .now))) ((c .before .before .before .before .before .before .before .before .before) .pre .1 .1 .1) in omega (arith, searchable-room (going-down (contextOf (read ((c .before .before .before .before .before .before .before .before .before) .args .file .now))) ((c .before .before .before .before .before .before .before .before .before) .args .s) ((c .before .before .before .before .before .loop) .inv .1 .1) ((c .before .before .before .before .before .loop) .n) ((c .before .before .before .before .before .loop) .inv .0) ((c .before .before .distance) .result) x ((c .link-looks) .result) ((c .link-looks) .ensures .0) ((c .before .before .before .before .before .loop) .n .children) refl .0))
 
 size-requires : tie.Need-size-requires Inv-loop μ-loop
 size-requires c κs = tt
@@ -111,7 +111,7 @@ behind-links-spec =
     add-next
     sub-left
     distance-requires
-    own-looks-requires
+    link-looks-requires
     add-looks-2
     add-next-2
     size-requires
