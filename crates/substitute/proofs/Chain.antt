@@ -36,13 +36,14 @@ use Rattle.plans.specs.Passing.{stopsIn}
 use Rattle.plans.specs.Search.{Searchable, SearchableRow, Did, passes, stops, replaces, Searches, SearchesRow}
 use Rattle.plans.proofs.Behind.{found-same}
 use Rattle.substitute.specs.declared.descent.Before.{Before}
-use Rattle.substitute.specs.OfNode.{behind, gather, OfNode, leafKind, isLeaf}
-use Rattle.substitute.specs.Links.{linkPlan, linkLooks, planBehind, IsLink, Goes, OfChildren, Steady, Leaves, no-leaves, one-more, planAt, Reaches, Links, start, link, SomeNode, LeavesBefore, Within, ChildSearched}
+use Rattle.substitute.specs.OfNode.{behind, gather, OfNode}
+use Rattle.substitute.specs.Links.{linkPlan, linkLooks, planBehind, IsLink, Goes, OfChildren, Steady, planAt, Reaches, Links, start, link, SomeAbove, IsAbove, Within, ChildSearched}
 use Rattle.substitute.proofs.Row.{wrong, row-replaced, row-stopped, row-either}
 use Rattle.substitute.proofs.Nodes.{one-searched, others-searchable, looks-in-room}
 use Rattle.substitute.proofs.Searching.{searchable-room, first-searchable, bare-node, node-is}
 use Rattle.substitute.proofs.OfNode.{node-of, of-clearing}
 use Rattle.substitute.proofs.Looking.{own-most}
+use Rattle.substitute.proofs.LeavesBefore.{above-same}
 use Rattle.substitute.proofs.Going.{gather-none, gather-both, goes-on, goes-to}
 
 by-test : (holds : Plan → Bool) (b : Bool) (p : Plan) → holds First ≡ false → holds p ≡ false → holds (cond b First p) ≡ false
@@ -148,61 +149,6 @@ same-before ctx s {table} {table′} {at} (replacement, d) (pre, t, rest, h, b) 
     let (x, e, z) = still-there (w replacement d pre t rest h b .0) in
     ap (λ y. nodeAt y (16 * k)) e ∙ node-before pre x (laids (more t none) rest) (16 * k) (omega (arith, l, z)) ∙ sym (ap (λ y. nodeAt y (16 * k)) (h .is))
 
--- Nothing but the records before a place counts for the leaves there.
-pub leaves-same : {table table′ : List ℕ} {at end : ℕ} {effect : Bool} {looks : ℕ} → ((k : ℕ) → k < end → nodeAt table (16 * k) ≡ nodeAt table′ (16 * k)) → Leaves table at end effect looks → Leaves table′ at end effect looks
-leaves-same h (no-leaves e) = no-leaves e
-leaves-same {table} {table′} {at} {end} h (one-more {next} {effect = effect} {looks} e l ls) =
-    let z = h next (omega (arith, e)) in
-    subst (λ n. Leaves table′ at end (effect || hasEffect (nodeOf n)) (looks + ownLooks (nodeOf n))) (sym z)
-    (one-more e (subst (λ n. isLeaf n ≡ true) z l) (leaves-same (λ k i. h k (omega (arith, e, i))) ls))
-
--- The leaves before a place, back to a node that is none, are the only ones.
-pub leaves-only : {table : List ℕ} {a b end : ℕ} {x y : Bool} {k m : ℕ} → Leaves table (a + 1) end x k → Leaves table (b + 1) end y m → isLeaf (nodeAt table (16 * a)) ≡ false → isLeaf (nodeAt table (16 * b)) ≡ false → (a ≡ b) × (x ≡ y) × (k ≡ m)
-leaves-only (no-leaves e) (no-leaves f) p q = (omega (arith, e, f), refl, refl)
-leaves-only {table} {a} {b} (no-leaves e) (one-more {next} f l ls) p q = let z : next ≡ a = omega (arith, e, f) in clash (isLeaf (nodeAt table (16 * a))) p (subst (λ k. isLeaf (nodeAt table (16 * k)) ≡ true) z l)
-leaves-only {table} {a} {b} (one-more {next} f l ls) (no-leaves e) p q = let z : next ≡ b = omega (arith, e, f) in clash (isLeaf (nodeAt table (16 * b))) q (subst (λ k. isLeaf (nodeAt table (16 * k)) ≡ true) z l)
-leaves-only {table} {a} {b} {end} {x} {y} {k} {m} (one-more {next} {effect = effect} {looks} e l ls) (one-more {next = other} {effect = other-effect} {looks = other-looks} f i others) p q =
-    let z : other ≡ next = omega (arith, e, f) in
-    let (u, v, w) = leaves-only ls (subst (λ j. Leaves table (b + 1) j other-effect other-looks) z others) p q in
-    (u, rw (z, v) refl, rw (z, w) refl)
-
--- one leaf more before some, and a node before it that is none
-pub leaves-back : (table : List ℕ) (last top looks : ℕ) (effect : Bool) (n : NodeRecord) → n ≡ nodeAt table (16 * last) → isLeaf n ≡ true → (x : Bool) → x ≡ hasEffect (nodeOf n) → (y : ℕ) → y ≡ ownLooks (nodeOf n) → 1 ≤ last
-    → ((a : ℕ) (e : Bool) (m : ℕ) → Leaves table a (last + 1) e m → Leaves table a top (e || effect) (m + looks))
-    → (a : ℕ) (e : Bool) (m : ℕ) → Leaves table a (last - 1 + 1) e m → Leaves table a top (e || (x || effect)) (m + (y + looks))
-leaves-back table last top looks effect n z h x p y q l f a e m ls =
-    let c = nodeOf (nodeAt table (16 * last)) in
-    let own : y ≡ ownLooks c = q ∙ ap (λ k. ownLooks (nodeOf k)) z in
-    let v : m + ownLooks c + looks ≡ m + (y + looks) = omega (arith, own) in
-    let u : (e || hasEffect c || effect) ≡ (e || (x || effect)) = together e (hasEffect c) effect ∙ ap (λ k. e || (k || effect)) (sym (p ∙ ap (λ k. hasEffect (nodeOf k)) z)) in
-    subst (λ k. Leaves table a top k (m + (y + looks))) u
-    (subst (Leaves table a top (e || hasEffect c || effect)) v
-    (f a (e || hasEffect c) (m + ownLooks c) (one-more refl (subst (λ k. isLeaf k ≡ true) z h) (subst (λ k. Leaves table a k e m) (omega (arith, l)) ls))))
-  where
-    together : (a b c : Bool) → (a || b || c) ≡ (a || (b || c))
-    together true b c = refl
-    together false b c = refl
-
--- at first there is none, and at last all are there
-pub leaves-start : (table : List ℕ) (top : ℕ) (a : ℕ) (e : Bool) (m : ℕ) → Leaves table a top e m → Leaves table a top (e || false) (m + 0)
-leaves-start table top a e m ls = subst (λ k. Leaves table a top k (m + 0)) (sym (or-false e)) (subst (Leaves table a top e) (omega arith) ls)
-
-pub leaves-all : (table : List ℕ) (last top end looks : ℕ) (effect : Bool) → top ≡ end → ((a : ℕ) (e : Bool) (m : ℕ) → Leaves table a (last + 1) e m → Leaves table a top (e || effect) (m + looks)) → Leaves table (last + 1) end effect looks
-leaves-all table last top end looks effect z f = subst (λ k. Leaves table (last + 1) k effect looks) z (subst (Leaves table (last + 1) top effect) (omega arith) (f (last + 1) false 0 (no-leaves refl)))
-
-pub node-sooner : (table : List ℕ) (last : ℕ) (n : NodeRecord) → n ≡ nodeAt table (16 * last) → isLeaf n ≡ true → SomeNode table (last + 1) → SomeNode table last
-node-sooner table last n z h (k, l, o) =
-    let other : k ≡ last → ⊥ = λ e. clash (isLeaf (nodeAt table (16 * k))) o (subst (λ j. isLeaf (nodeAt table (16 * j)) ≡ true) (sym e) (subst (λ j. isLeaf j ≡ true) z h)) in
-    (k, omega (arith, l, other), o)
-
--- a node with children is no leaf
-pub children-no-leaf : (n : NodeRecord) → (n .children ≡ 0 → ⊥) → isLeaf n ≡ false
-children-no-leaf n some = off (eqb (n .children) 0) refl
-  where
-    off : (b : Bool) → eqb (n .children) 0 ≡ b → (b && leafKind (n .kind)) ≡ false
-    off true e = absurd (some (eqb-true (n .children) 0 e))
-    off false e = refl
-
 -- what is replaced isn't passed
 not-passed : (a : Answer) → isReplaced a ≡ true → isPassed a ≡ false
 not-passed Replaced e = refl
@@ -221,18 +167,15 @@ same-flags : (table : List ℕ) (at : ℕ) → set table (16 * at + 1) (nodeAt t
 unfolding nodeAt
 same-flags table at = set-getD table (16 * at + 1) 0
 
--- A child of a link that was searched behind its leaves.
-module _ (ctx : Context) (s : Sought) {table₀ table : List ℕ} {at child left : ℕ} {effect : Bool} {looks : ℕ} {w : Walked} (k : Known s) (g : Reaches ctx s table₀ at child left effect looks) (v : Searches ctx s table₀ table child w) where
+-- A child of a link that was searched.
+module _ (ctx : Context) (s : Sought) {table₀ table : List ℕ} {at child before left : ℕ} {effect : Bool} {looks : ℕ} {w : Walked} (k : Known s) (g : Reaches ctx s table₀ at child before left effect looks) (v : Searches ctx s table₀ table child w) where
   pub child-searchable : Searchable table₀ child
-  child-searchable = first-searchable (g .goes .row) (g .some)
+  child-searchable = first-searchable (g .goes .row) (g .above .some)
 
   module _ (n : NodeRecord) (e : n ≡ nodeAt table (16 * at)) where
     -- the link's record as it was
     pub record-was : n ≡ nodeAt table₀ (16 * at)
-    record-was = e ∙ same-before ctx s k child-searchable v at (g .later)
-
-    pub left-was : left + child ≡ n .children + at + 1
-    left-was = subst (λ x. left + child ≡ x .children + at + 1) (sym record-was) (g .many)
+    record-was = e ∙ same-before ctx s k child-searchable v at (g .above .later)
 
     -- the link, from its children
     pub behind-searched : {table′ table″ : List ℕ} {a q : Walked} → OfChildren ctx s table₀ at table′ a → OfNode ctx table′ table″ at n false s (behind false a) q → Searches ctx s table₀ table″ at q
@@ -244,7 +187,7 @@ module _ (ctx : Context) (s : Sought) {table₀ table : List ℕ} {at child left
       let n = nodeAt table (16 * at) in
       let z = record-was n refl in
       let a = gather effect looks w in
-      let row = goes-to ctx s (g .goes) refl (λ replacement d pre ts rest t c b. row-replaced ctx s replacement d (planAt table₀ s at child) (g .enters) v ts c (g .some) t b h) in
+      let row = goes-to ctx s (g .goes) refl (λ replacement d pre ts rest t c b. row-replaced ctx s replacement d (planAt table₀ s at before) (g .enters) v ts c (g .above .some) t b h) in
       let q : Walked = record { next = w .next; place = w .place; looks = ownLooks (nodeOf n) + (looks + w .looks); answer = w .answer; effect = effect || w .effect; indirect = w .indirect } in
       let o = of-clearing ctx table at false s (behind false a) q n (n .flags) (ownLooks (nodeOf n)) table (sym (subst (λ x. cleared (nodeOf x) .flags ≡ x .flags) (sym z) (g .kept))) (sym (same-flags table at)) refl (not-passed (w .answer) h) refl in
       let (x, y) = behind-searched n refl row o replacement d pre t rest t′ b in
@@ -257,15 +200,15 @@ links-seen (start e) = omega (arith, e)
 links-seen {table = table} (link {next} r ls) = omega (arith, r .goes .seen, links-seen ls, own-most (nodeOf (nodeAt table (16 * next))))
 
 -- the last of them
-record LastLink (ctx : Context) (s : Sought) (table : List ℕ) (at end looks next left seen extra : ℕ) (effect : Bool) : Type 0 where
-  reaches : Reaches ctx s table next end left effect extra
+record LastLink (ctx : Context) (s : Sought) (table : List ℕ) (at end looks next before left seen extra : ℕ) (effect : Bool) : Type 0 where
+  reaches : Reaches ctx s table next end before left effect extra
   links : Links ctx s table at next seen
   all : looks ≡ seen + (ownLooks (nodeOf (nodeAt table (16 * next))) + extra)
 
 last-link : {ctx : Context} {s : Sought} {table : List ℕ} {at end looks : ℕ} → Links ctx s table at end looks → at < end
-    → (next : ℕ) × (left : ℕ) × (seen : ℕ) × (extra : ℕ) × (effect : Bool) × LastLink ctx s table at end looks next left seen extra effect
+    → (next : ℕ) × (before : ℕ) × (left : ℕ) × (seen : ℕ) × (extra : ℕ) × (effect : Bool) × LastLink ctx s table at end looks next before left seen extra effect
 last-link (start e) l = absurd (omega (arith, e, l))
-last-link (link {next} {left = left} {looks = extra} {seen = seen} {effect = effect} r ls) l = (next, left, seen, extra, effect, record { reaches = r; links = ls; all = refl })
+last-link (link {next} {before = before} {left} {looks = extra} {seen = seen} {effect = effect} r ls) l = (next, before, left, seen, extra, effect, record { reaches = r; links = ls; all = refl })
 
 -- the name was found behind them
 pub found-links : (ctx : Context) (s : Sought) {table₀ table : List ℕ} {at end looks : ℕ} {w : Walked} → Known s → Links ctx s table₀ at end looks → Searches ctx s table₀ table end w → isReplaced (w .answer) ≡ true → Searches ctx s table₀ table at (gather false looks w)
@@ -279,53 +222,63 @@ module _ (ctx : Context) (s : Sought) {table₀ table : List ℕ} {at end looks 
   pub within-looks : 16 * looks + 16 * w .looks ≤ length table
   within-looks = omega (arith, links-seen (g .links), looks-in-room ctx s k (g .here) (g .did), g .same)
 
+  same : (j : ℕ) → j < end → nodeAt table (16 * j) ≡ nodeAt table₀ (16 * j)
+  same = same-before ctx s k (g .here) (g .did)
+
   module _ (l : at < end) where
     pub within-room : 16 * end ≤ length table
     within-room = omega (arith, searchable-room (g .here), g .same)
 
-    -- there is a node that is no leaf before
-    pub within-node : SomeNode table end
-    within-node =
-        let (next, left, seen, extra, effect, r) = last-link (g .links) l in
-        (next, r .reaches .later, subst (λ n. isLeaf n ≡ false) (sym (same-before ctx s k (g .here) (g .did) next (r .reaches .later))) (children-no-leaf (nodeAt table₀ (16 * next)) (r .reaches .children)))
+    -- there is a node above
+    pub within-above : SomeAbove table end
+    within-above =
+        let (next, before, left, seen, extra, effect, r) = last-link (g .links) l in
+        (next, before, left, effect, extra, above-same (λ j i. sym (same j i)) (r .reaches .above))
 
-    module _ (b : Before) (f : LeavesBefore table end b) where
-      -- the last of them is the last link
-      last-before : (left : ℕ) × (seen : ℕ) × LastLink ctx s table₀ at end looks (b .link .0) left seen (b .looks) (b .effect)
+    module _ (b : Before) (f : IsAbove table end b) where
+      -- it is the last link
+      abbrev Last : ℕ → ℕ → ℕ → ℕ → ℕ → Bool → Type 0
+      Last next before left seen extra effect =
+          LastLink ctx s table₀ at end looks next before left seen extra effect
+          × (b ≡ record { link = record { 0 = next }; before = before; left = left - 1; looks = extra; own = ownLooks (nodeOf (nodeAt table₀ (16 * next))); effect = effect })
+
+      last-before : (next : ℕ) × (before : ℕ) × (left : ℕ) × (seen : ℕ) × (extra : ℕ) × (effect : Bool) × Last next before left seen extra effect
       last-before =
-          let (next, left, seen, extra, effect, r) = last-link (g .links) l in
-          let same : (j : ℕ) → j < end → nodeAt table (16 * j) ≡ nodeAt table₀ (16 * j) = same-before ctx s k (g .here) (g .did) in
-          let (x, y, z) = leaves-only (r .reaches .leaves) (leaves-same same (f .leaves)) (children-no-leaf (nodeAt table₀ (16 * next)) (r .reaches .children)) (subst (λ n. isLeaf n ≡ false) (same (b .link .0) (f .sooner)) (f .other)) in (
-            left,
-            seen,
-            subst (λ m. LastLink ctx s table₀ at end looks (b .link .0) left seen m (b .effect)) z (subst (λ e. LastLink ctx s table₀ at end looks (b .link .0) left seen extra e) y (subst (λ j. LastLink ctx s table₀ at end looks j left seen extra effect) x r)),
-          )
+          let (next, before, left, seen, extra, effect, r) = last-link (g .links) l in
+          let e = f next before left effect extra (above-same (λ j i. sym (same j i)) (r .reaches .above)) in
+          (next, before, left, seen, extra, effect, (r, e ∙ ap (λ n. record { link = record { 0 = next }; before = before; left = left - 1; looks = extra; own = ownLooks (nodeOf n); effect = effect }) (same next (r .reaches .above .later))))
 
-      own-was : b .own ≡ ownLooks (nodeOf (nodeAt table₀ (16 * b .link .0)))
-      own-was = f .own ∙ ap (λ n. ownLooks (nodeOf n)) (same-before ctx s k (g .here) (g .did) (b .link .0) (f .sooner))
+      pub before-sooner : b .link .0 < end
+      before-sooner = let (next, before, left, seen, extra, effect, (r, e)) = last-before in omega (arith, r .reaches .above .later, ap (λ x. x .link .0) e)
 
       pub before-room : 16 * b .link .0 + 16 ≤ length table
-      before-room = omega (arith, within-room, f .sooner)
+      before-room = omega (arith, within-room, before-sooner)
 
       pub before-later : at ≤ b .link .0
-      before-later = omega (arith, links-seen (last-before .2 .links))
+      before-later = let (next, before, left, seen, extra, effect, (r, e)) = last-before in omega (arith, links-seen (r .links), ap (λ x. x .link .0) e)
 
       pub before-looks : b .own + b .looks ≤ looks
-      before-looks = omega (arith, last-before .2 .all, own-was)
+      before-looks = let (next, before, left, seen, extra, effect, (r, e)) = last-before in omega (arith, r .all, ap (λ x. x .own) e, ap (λ x. x .looks) e)
 
       pub within-link : {table′ : List ℕ} {r : Walked} → Searches ctx s table₀ table′ (b .link .0) r → length table′ ≡ length table → Within ctx s table₀ table′ at (b .link .0) (looks - (b .own + b .looks)) r
       within-link v m =
-          let (left, seen, r) = last-before in
+          let (next, before, left, seen, extra, effect, (r, e)) = last-before in
+          let z : seen ≡ looks - (b .own + b .looks) = omega (arith, r .all, ap (λ x. x .own) e, ap (λ x. x .looks) e) in
+          let there : next ≡ b .link .0 = sym (ap (λ x. x .link .0) e) in
           record {
-            links = subst (Links ctx s table₀ at (b .link .0)) (omega (arith, r .all, own-was)) (r .links);
-            here = r .reaches .here;
+            links = subst (Links ctx s table₀ at (b .link .0)) z (subst (λ j. Links ctx s table₀ at j seen) there (r .links));
+            here = subst (Searchable table₀) there (r .reaches .here);
             did = v;
             same = m ∙ g .same;
           }
 
       -- what is asked for the search of the last link, where the name wasn't found
-      pub within-child : isReplaced (w .answer) ≡ false → (left : ℕ) × ChildSearched ctx s table₀ table b end left w
-      within-child o = (last-before .0, record { reaches = last-before .2 .reaches; did = g .did; not-found = o; same = g .same })
+      pub within-child : isReplaced (w .answer) ≡ false → ChildSearched ctx s table₀ table b end w
+      within-child o =
+          let (next, before, left, seen, extra, effect, (r, e)) = last-before in
+          let z : left ≡ left - 1 + 1 = omega (arith, r .reaches .above .some) in
+          subst (λ x. ChildSearched ctx s table₀ table x end w) (sym e)
+          (record { reaches = subst (λ j. Reaches ctx s table₀ next end before j effect extra) z (r .reaches); did = g .did; not-found = o; same = g .same })
 
   -- the name was found, or all links are behind
   pub within-all : (replaced : Bool) → replaced ≡ isReplaced (w .answer) → (not replaced && ltb at end) ≡ false → Searches ctx s table₀ table at (gather false looks w)
@@ -334,15 +287,18 @@ module _ (ctx : Context) (s : Sought) {table₀ table : List ℕ} {at end looks 
     where
       all-behind : {end looks : ℕ} → Links ctx s table₀ at end looks → end ≤ at → Searches ctx s table₀ table end w → Searches ctx s table₀ table at (gather false looks w)
       all-behind (start e) l v = subst (λ x. Searches ctx s table₀ table x (gather false 0 w)) e (subst (Searches ctx s table₀ table _) (gather-none w) v)
-      all-behind (link r ls) l v = absurd (omega (arith, l, r .later, links-seen ls))
+      all-behind (link r ls) l v = absurd (omega (arith, l, r .above .later, links-seen ls))
 
--- A link whose child was searched behind its leaves, and the name was not found.
-module _ (ctx : Context) (s : Sought) {table₀ table : List ℕ} {b : Before} {child left : ℕ} {w : Walked} (k : Known s) (g : ChildSearched ctx s table₀ table b child left w) where
+-- A link whose child was searched, and the name was not found.
+module _ (ctx : Context) (s : Sought) {table₀ table : List ℕ} {b : Before} {child : ℕ} {w : Walked} (k : Known s) (g : ChildSearched ctx s table₀ table b child w) where
   pub behind-room : 16 * b .link .0 + 16 ≤ length table
   behind-room = omega (arith, searchable-room (g .reaches .here), g .same)
 
-  pub behind-row : SearchableRow table (w .next .0) (left - 1) × (child + 1 ≤ w .next .0) × (child + w .looks ≤ w .next .0)
-  behind-row = others-searchable ctx s k (g .reaches .goes .row) (g .reaches .some) (g .did) (g .not-found)
+  left-behind : b .left + 1 - 1 ≡ b .left
+  left-behind = omega arith
+
+  pub behind-row : SearchableRow table (w .next .0) (b .left) × (child + 1 ≤ w .next .0) × (child + w .looks ≤ w .next .0)
+  behind-row = rw (← left-behind) (others-searchable ctx s k (g .reaches .goes .row) (g .reaches .above .some) (g .did) (g .not-found))
 
   pub behind-seen : b .link .0 + 1 + b .looks ≤ child
   behind-seen = g .reaches .goes .seen
@@ -351,47 +307,38 @@ module _ (ctx : Context) (s : Sought) {table₀ table : List ℕ} {b : Before} {
   behind-looks = omega (arith, looks-in-room ctx s k (child-searchable ctx s k (g .reaches) (g .did)) (g .did), g .same)
 
   module _ (n : NodeRecord) (e : n ≡ nodeAt table (16 * b .link .0)) where
-    pub behind-left : left + child ≡ n .children + b .link .0 + 1
-    behind-left = left-was ctx s k (g .reaches) (g .did) n e
-
-    pub same-left : (many : ℕ) → many ≡ n .children → many + b .link .0 - child ≡ left - 1
-    same-left many z = omega (arith, z, behind-left, g .reaches .some)
-
     -- the plan by which the child was searched
-    pub plan-was : planBehind (linkPlan s (shape (nodeOf n))) (child - b .link .0 - 1) ≡ planAt table₀ s (b .link .0) child
-    plan-was = ap (λ x. planBehind (linkPlan s (shape (nodeOf x))) (child - b .link .0 - 1)) (record-was ctx s k (g .reaches) (g .did) n e) ∙ ap (planBehind (linkPlan s (shape (nodeOf (nodeAt table₀ (16 * b .link .0)))))) (omega arith)
+    pub plan-was : planBehind (linkPlan s (shape (nodeOf n))) (b .before) ≡ planAt table₀ s (b .link .0) (b .before)
+    plan-was = ap (λ x. planBehind (linkPlan s (shape (nodeOf x))) (b .before)) (record-was ctx s k (g .reaches) (g .did) n e)
 
     pub child-behind : {table′ table″ : List ℕ} {a q : Walked} → OfChildren ctx s table₀ (b .link .0) table′ a → OfNode ctx table′ table″ (b .link .0) n false s (behind false a) q → Searches ctx s table₀ table″ (b .link .0) q
     child-behind r o = behind-searched ctx s k (g .reaches) (g .did) n e r o
 
   -- the children, by that plan: where the search ended in the child, where that is a branch, where it is the last one, and
   -- with the others
-  module _ (now : Plan) (z : now ≡ planAt table₀ s (b .link .0) child) where
+  module _ (now : Plan) (z : now ≡ planAt table₀ s (b .link .0) (b .before)) where
     enters-now : isNothing now ≡ false
     enters-now = ap isNothing z ∙ g .reaches .enters
 
     abbrev Children : List ℕ → Walked → Type 0
     Children table′ a = OfChildren ctx s table₀ (b .link .0) table′ a
 
-    goes : Goes ctx s (OfChildren ctx s table₀ (b .link .0)) (b .link .0 + 1) table₀ child left now (b .effect) (b .looks)
-    goes = subst (λ p. Goes ctx s (OfChildren ctx s table₀ (b .link .0)) (b .link .0 + 1) table₀ child left p (b .effect) (b .looks)) (sym z) (g .reaches .goes)
+    goes : Goes ctx s (OfChildren ctx s table₀ (b .link .0)) (b .link .0 + 1) table₀ child (b .left + 1) now (b .effect) (b .looks)
+    goes = subst (λ p. Goes ctx s (OfChildren ctx s table₀ (b .link .0)) (b .link .0 + 1) table₀ child (b .left + 1) p (b .effect) (b .looks)) (sym z) (g .reaches .goes)
 
-    pub row-ended : {a : Walked} {end : ℕ} {effect : Bool} (q : Walked) → isPassed (w .answer) ≡ false → isBranches now ≡ false → Passes table (w .next .0) (left - 1) end effect → q .answer ≡ Stopped → q .next .0 ≡ end → q .looks ≡ w .looks → a ≡ gather (b .effect) (b .looks) q → Children table a
-    row-ended q h i p x y z r = goes-to ctx s goes r (λ replacement d pre ts rest t c b. row-stopped ctx s replacement d now enters-now (g .did) ts c (g .reaches .some) t b h (g .not-found) i p x y z)
+    pub row-ended : {a : Walked} {end : ℕ} {effect : Bool} (q : Walked) → isPassed (w .answer) ≡ false → isBranches now ≡ false → Passes table (w .next .0) (b .left) end effect → q .answer ≡ Stopped → q .next .0 ≡ end → q .looks ≡ w .looks → a ≡ gather (b .effect) (b .looks) q → Children table a
+    row-ended {end = end} {effect} q h i p x y z r = goes-to ctx s goes r (λ replacement d pre ts rest t c u. row-stopped ctx s replacement d now enters-now (g .did) ts c (g .reaches .above .some) t u h (g .not-found) i (subst (λ j. Passes table (w .next .0) j end effect) (sym left-behind) p) x y z)
 
-    pub row-branches : {table′ : List ℕ} {a others q : Walked} (many : ℕ) → many ≡ left - 1 → isPassed (w .answer) ≡ false → isBranches now ≡ true → SearchesRow ctx s table table′ (w .next .0) many All others → Either w others q → a ≡ gather (b .effect) (b .looks) q → Children table′ a
-    row-branches {table′} {others = others} many m h i v x r =
-        goes-to ctx s goes r (λ replacement d pre ts rest t c b. row-either ctx s replacement d now (g .did) ts c (g .reaches .some) t b h (g .not-found) i (subst (λ j. SearchesRow ctx s table table′ (w .next .0) j All others) m v) x)
+    pub row-branches : {table′ : List ℕ} {a others q : Walked} → isPassed (w .answer) ≡ false → isBranches now ≡ true → SearchesRow ctx s table table′ (w .next .0) (b .left) All others → Either w others q → a ≡ gather (b .effect) (b .looks) q → Children table′ a
+    row-branches {table′} {others = others} h i v x r =
+        goes-to ctx s goes r (λ replacement d pre ts rest t c u. row-either ctx s replacement d now (g .did) ts c (g .reaches .above .some) t u h (g .not-found) i (subst (λ j. SearchesRow ctx s table table′ (w .next .0) j All others) (sym left-behind) v) x)
 
-    pub row-last : {a : Walked} → left - 1 ≡ 0 → a ≡ gather (b .effect) (b .looks) w → Children table a
-    row-last z r = goes-to ctx s goes r (one-searched ctx s left now (one-of (g .reaches .some) z) enters-now (g .did))
-      where
-        one-of : {m : ℕ} → (m ≡ 0 → ⊥) → m - 1 ≡ 0 → m ≡ 1
-        one-of h z = omega (arith, h, z)
+    pub row-last : {a : Walked} → b .left ≡ 0 → a ≡ gather (b .effect) (b .looks) w → Children table a
+    row-last z r = goes-to ctx s goes r (one-searched ctx s (b .left + 1) now (omega (arith, z)) enters-now (g .did))
 
-    pub row-all : {table′ : List ℕ} {others a : Walked} (many : ℕ) → many ≡ left - 1 → (after : Plan) → isPassed (w .answer) ≡ true → planned after ≡ nextPlan (planned now) → SearchesRow ctx s table table′ (w .next .0) many after others → a ≡ gather (b .effect || w .effect) (b .looks + w .looks) others → Children table′ a
-    row-all {table′} {others} many z after h q v r =
+    pub row-all : {table′ : List ℕ} {others a : Walked} (after : Plan) → isPassed (w .answer) ≡ true → planned after ≡ nextPlan (planned now) → SearchesRow ctx s table table′ (w .next .0) (b .left) after others → a ≡ gather (b .effect || w .effect) (b .looks + w .looks) others → Children table′ a
+    row-all {table′} {others} after h q v r =
         goes-to ctx s
-        (goes-on ctx s after k goes enters-now (g .did) (g .reaches .some) (g .not-found) h q)
+        (goes-on ctx s after k goes enters-now (g .did) (g .reaches .above .some) (g .not-found) h q)
         r
-        (subst (λ m. SearchesRow ctx s table table′ (w .next .0) m after others) z v)
+        (subst (λ m. SearchesRow ctx s table table′ (w .next .0) m after others) (sym left-behind) v)

@@ -10,6 +10,7 @@ pub mod Nodes
 pub mod Going
 pub mod ShapeCases
 pub mod PlansBehind
+pub mod LeavesBefore
 pub mod Chain
 pub mod Reaching
 pub mod Values

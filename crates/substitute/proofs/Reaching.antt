@@ -24,7 +24,7 @@ use Rattle.plans.specs.Begins.{BeginsAt}
 use Rattle.plans.specs.Described.{Known}
 use Rattle.plans.specs.Search.{Searchable, Searches, SearchesRow}
 use Rattle.substitute.specs.OfNode.{gather, isLeaf, movesLeaf, passesName, PassedLeaf}
-use Rattle.substitute.specs.Links.{linkPlan, linkLooks, nextOf, planBehind, onward, IsLink, Goes, OfChildren, no-leaves, one-more, planAt, Reaches, EntersAt, Links, start, link, LinksTo, Going, begun, through}
+use Rattle.substitute.specs.Links.{linkPlan, linkLooks, nextOf, planBehind, onward, IsLink, Goes, OfChildren, no-leaves, one-more, Between, past-leaves, past-target, Reaches, leftFrom, EntersAt, Links, start, link, LinksTo, Going, begun, through}
 use Rattle.substitute.proofs.Leaves.{leaf-by}
 use Rattle.substitute.proofs.Searching.{searchable-room, first-searchable}
 use Rattle.substitute.proofs.Nodes.{begun-row}
@@ -53,77 +53,73 @@ begun-goes ctx s g k h w i =
           (x .on i y (record { answer = refl; next = refl; effects = refl; place = refl; indirect = refl }), omega (arith, z, x .looks i));
     }
 
--- the plan for the first child
-plan-first : (s : Sought) (table : List ℕ) (at : ℕ) → planAt table s at (at + 1) ≡ linkPlan s (shape (nodeOf (nodeAt table (16 * at))))
-unfolding planBehind
-plan-first s table at = ap (planBehind (linkPlan s (shape (nodeOf (nodeAt table (16 * at)))))) (none-before at)
-  where
-    none-before : (k : ℕ) → k + 1 - (k + 1) ≡ 0
-    none-before k = omega arith
-
 module _ (ctx : Context) (s : Sought) {table : List ℕ} {at : ℕ} where
   -- the first child
   pub enters-first : (n : NodeRecord) → n ≡ nodeAt table (16 * at) → Searchable table at → IsLink n s → EntersAt ctx s table at 1
+  unfolding planBehind
   enters-first n e h l =
       let q = nodeAt table (16 * at) in
-      let m : IsLink q s = subst (λ x. IsLink x s) e l in
-      let z : q .children ≡ q .children + 1 - 1 = omega arith in
-      record {
-        here = h;
-        children = m .some;
-        other = m .other;
-        kept = m .kept;
-        own = m .looks;
-        steady = link-steady ctx s n e l;
-        later = omega arith;
-        leaves = no-leaves refl;
-        some = λ x. m .some (omega (arith, x));
-        many = omega arith;
-        enters = ap isNothing (plan-first s table at) ∙ plan-enters s (shape (nodeOf q));
-        goes = subst (λ p. Goes ctx s (OfChildren ctx s table at) (at + 1) table (at + 1) (q .children + 1 - 1) p false 0) (sym (plan-first s table at))
-            (subst (λ k. Goes ctx s (OfChildren ctx s table at) (at + 1) table (at + 1) k (linkPlan s (shape (nodeOf q))) false 0) z
-            (record {
-              row = children-row h;
-              seen = omega arith;
-              on = λ {table′} {r} w. link-children ctx s q refl m (subst (SearchesRow ctx s table table′ (at + 1) (q .children) (linkPlan s (shape (nodeOf q)))) (gather-none r) w);
-            }));
-      }
+      let m : IsLink q s = subst (λ x. IsLink x s) e l in (
+        0,
+        record {
+          here = h;
+          other = m .other;
+          kept = m .kept;
+          own = m .looks;
+          steady = link-steady ctx s n e l;
+          above = record { later = omega arith; between = past-leaves {before = 0} (omega arith) (no-leaves refl); many = omega arith; some = m .some };
+          enters = plan-enters s (shape (nodeOf q));
+          goes = record {
+            row = children-row h;
+            seen = omega arith;
+            on = λ {table′} {r} w. link-children ctx s q refl m (subst (SearchesRow ctx s table table′ (at + 1) (q .children) (linkPlan s (shape (nodeOf q)))) (gather-none r) w);
+          };
+        },
+      )
 
-  module _ {child left : ℕ} {effect : Bool} {looks : ℕ} (g : Reaches ctx s table at child left effect looks) where
+  module _ {child before left : ℕ} {effect : Bool} {looks : ℕ} (g : Reaches ctx s table at child before left effect looks) where
     pub child-here : Searchable table child
-    child-here = first-searchable (g .goes .row) (g .some)
+    child-here = first-searchable (g .goes .row) (g .above .some)
 
     pub child-room : 16 * child + 16 ≤ length table
     child-room = searchable-room child-here
 
-    -- the plan behind one child more
-    plan-next : planAt table s at (child + 1) ≡ nextOf (planAt table s at child)
-    unfolding planBehind
-    plan-next = ap (planBehind (linkPlan s (shape (nodeOf (nodeAt table (16 * at)))))) (one-further (g .later))
-      where
-        one-further : at < child → child + 1 - (at + 1) ≡ suc (child - (at + 1))
-        one-further l = omega (arith, l)
+-- one leaf more stands between
+between-next : {table : List ℕ} {at child before left : ℕ} {effect : Bool} {looks : ℕ} → Between table at child before effect looks → left + before ≡ nodeAt table (16 * at) .children → 2 ≤ left → isLeaf (nodeAt table (16 * child)) ≡ true
+    → Between table at (child + 1) (before + 1) (effect || hasEffect (nodeOf (nodeAt table (16 * child)))) (looks + ownLooks (nodeOf (nodeAt table (16 * child))))
+between-next {before = before} (past-leaves e ls) m l h = past-leaves {before = before + 1} (omega (arith, e)) (one-more refl h ls)
+between-next (past-target t o c ls) m l h = absurd (omega (arith, t, m, l))
 
-    -- the next one, behind a leaf that is passed
-    pub reaches-next : Known s → (n : NodeRecord) → n ≡ nodeAt table (16 * child) → onward (linkPlan s (shape (nodeOf (nodeAt table (16 * at))))) ≡ true → PassedLeaf ctx s n → 2 ≤ left
-        → Reaches ctx s table at (child + 1) (left - 1) (effect || hasEffect (nodeOf (nodeAt table (16 * child)))) (looks + ownLooks (nodeOf (nodeAt table (16 * child))))
-    reaches-next k n e p l m =
-        let o = onward-behind (linkPlan s (shape (nodeOf (nodeAt table (16 * at))))) in
-        record {
-          here = g .here;
-          children = g .children;
-          other = g .other;
-          kept = g .kept;
-          own = g .own;
-          steady = g .steady;
-          later = omega (arith, g .later);
-          leaves = one-more refl (subst (λ x. isLeaf x ≡ true) e (l .bare)) (g .leaves);
-          some = λ z. omega (arith, z, m);
-          many = omega (arith, g .many, m);
-          enters = onward-enters (planAt table s at (child + 1)) (o (child + 1 - (at + 1)) p);
-          goes = subst (λ x. Goes ctx s (OfChildren ctx s table at) (at + 1) table (child + 1) (left - 1) (planAt table s at (child + 1)) (effect || hasEffect (nodeOf x)) (looks + ownLooks (nodeOf x))) e
-              (goes-on ctx s (planAt table s at (child + 1)) k (g .goes) (g .enters) (leaf-is-passed ctx s n e l) (g .some) refl refl (ap planned plan-next ∙ next-is (planAt table s at child)));
-        }
+-- the plan behind one child more
+plan-next : (p : Plan) (before : ℕ) → planBehind p (before + 1) ≡ nextOf (planBehind p before)
+unfolding planBehind
+plan-next p before = ap (planBehind p) (one-further before)
+  where
+    one-further : (k : ℕ) → k + 1 ≡ suc k
+    one-further k = omega arith
+
+-- the next one, behind a leaf that is passed
+pub reaches-next : (ctx : Context) (s : Sought) {table : List ℕ} {at child before left : ℕ} {effect : Bool} {looks : ℕ} → Reaches ctx s table at child before left effect looks → Known s → (n : NodeRecord) → n ≡ nodeAt table (16 * child)
+    → onward (linkPlan s (shape (nodeOf (nodeAt table (16 * at))))) ≡ true → PassedLeaf ctx s n → 2 ≤ left
+    → Reaches ctx s table at (child + 1) (before + 1) (left - 1) (effect || hasEffect (nodeOf (nodeAt table (16 * child)))) (looks + ownLooks (nodeOf (nodeAt table (16 * child))))
+reaches-next ctx s {table} {at} {child} {before} {left} {effect} {looks} g k n e p l m =
+    let q = linkPlan s (shape (nodeOf (nodeAt table (16 * at)))) in
+    record {
+      here = g .here;
+      other = g .other;
+      kept = g .kept;
+      own = g .own;
+      steady = g .steady;
+      above = record {
+        later = omega (arith, g .above .later);
+        between = between-next (g .above .between) (g .above .many) m (subst (λ x. isLeaf x ≡ true) e (l .bare));
+        many = omega (arith, g .above .many, m);
+        some = λ z. omega (arith, z, m);
+      };
+      enters = onward-enters (planBehind q (before + 1)) (onward-behind q (before + 1) p);
+      goes = subst (λ x. Goes ctx s (OfChildren ctx s table at) (at + 1) table (child + 1) (left - 1) (planBehind q (before + 1)) (effect || hasEffect (nodeOf x)) (looks + ownLooks (nodeOf x))) e
+          (goes-on ctx s (planBehind q (before + 1)) k (g .goes) (g .enters) (leaf-is-passed ctx s n e l) (g .above .some) refl refl (ap planned (plan-next q before) ∙ next-is (planBehind q before)));
+    }
 
 -- On the way down.
 module _ (ctx : Context) (s : Sought) {table : List ℕ} {at next left : ℕ} {above : NodeRecord} where
@@ -145,11 +141,11 @@ module _ (ctx : Context) (s : Sought) {table : List ℕ} {at next left : ℕ} {a
 
   -- down through a node
   pub going-down : {looks : ℕ} → Going ctx s table at next left above looks → (n : NodeRecord) → n ≡ nodeAt table (16 * next) → (far : ℕ) → EntersAt ctx s table next far → (own : ℕ) → own ≡ linkLooks n
-      → (many : ℕ) → many ≡ n .children → Searchable table (next + far) × Going ctx s table at (next + far) (many + 1 - far) n (looks + own)
-  going-down {looks} g n f far x own o many c =
+      → (many : ℕ) → many ≡ leftFrom n far → Searchable table (next + far) × Going ctx s table at (next + far) many n (looks + own)
+  going-down {looks} g n f far (before, x) own o many c =
       let z : looks + (ownLooks (nodeOf (nodeAt table (16 * next))) + 0) ≡ looks + own = omega (arith, o, ap linkLooks f, x .own) in
-      let q : nodeAt table (16 * next) .children + 1 - far ≡ many + 1 - far = ap (λ y. y + 1 - far) (sym (c ∙ ap (λ y. y .children) f)) in
-      (child-here ctx s x, subst (Going ctx s table at (next + far) (many + 1 - far) n) z (subst (λ k. Going ctx s table at (next + far) k n (looks + (ownLooks (nodeOf (nodeAt table (16 * next))) + 0))) q (through f x (going-links g))))
+      let q : leftFrom (nodeAt table (16 * next)) far ≡ many = sym (c ∙ ap (λ y. leftFrom y far) f) in
+      (child-here ctx s x, subst (Going ctx s table at (next + far) many n) z (subst (λ k. Going ctx s table at (next + far) k n (looks + (ownLooks (nodeOf (nodeAt table (16 * next))) + 0))) q (through f x (going-links g))))
 
 -- the same, of other names for the same numbers
 pub going-as : (ctx : Context) (s : Sought) (table : List ℕ) (at : ℕ) {next next′ left left′ looks looks′ : ℕ} {above above′ : NodeRecord} → next′ ≡ next → left′ ≡ left → looks′ ≡ looks → above′ ≡ above

@@ -121,33 +121,46 @@ pub data Leaves (table : List ℕ) (at : ℕ) : ℕ → Bool → ℕ → Type 0 
   one-more : {next end : ℕ} {effect : Bool} {looks : ℕ} → end ≡ next + 1 → isLeaf (nodeAt table (16 * next)) ≡ true → Leaves table at next effect looks
       → Leaves table at end (effect || hasEffect (nodeOf (nodeAt table (16 * next)))) (looks + ownLooks (nodeOf (nodeAt table (16 * next))))
 
--- the plan of the node at a place, from the child at another on, where leaves stand before that
-abbrev pub planAt : List ℕ → Sought → ℕ → ℕ → Plan
-planAt table s at child = planBehind (linkPlan s (shape (nodeOf (nodeAt table (16 * at))))) (child - (at + 1))
+-- What stands between a node and one of its children, `before` of which are passed before it: leaves, with their effect and
+-- their looks; or an assignment's target over leaves, which has no effect and isn't looked at.
+pub data Between (table : List ℕ) (at child : ℕ) : ℕ → Bool → ℕ → Type 0 where
+  past-leaves : {before looks : ℕ} {effect : Bool} → before + (at + 1) ≡ child → Leaves table (at + 1) child effect looks → Between table at child before effect looks
+  past-target : {looks : ℕ} {effect : Bool} → nodeAt table (16 * at) .children ≡ 2 → isLeaf (nodeAt table (16 * (at + 1))) ≡ false → nodeAt table (16 * (at + 1)) .children + (at + 2) ≡ child → Leaves table (at + 2) child effect looks → Between table at child 1 false 0
 
--- A child of the node at `at`: the leaves before it are passed, and it is the first of the `left` children that are left.
-pub record Reaches (ctx : Context) (s : Sought) (table : List ℕ) (at child left : ℕ) (effect : Bool) (looks : ℕ) : Type 0 where
+-- the node above a child, which is the first of the `left` children that are left
+pub record Above (table : List ℕ) (at child before left : ℕ) (effect : Bool) (looks : ℕ) : Type 0 where
+  pub later : at < child
+  pub between : Between table at child before effect looks
+  pub many : left + before ≡ nodeAt table (16 * at) .children
+  pub some : left ≡ 0 → ⊥
+
+-- the plan of the node at a place, behind so many children
+abbrev pub planAt : List ℕ → Sought → ℕ → ℕ → Plan
+planAt table s at before = planBehind (linkPlan s (shape (nodeOf (nodeAt table (16 * at))))) before
+
+-- A child of the node at `at`, where what stands between is passed.
+pub record Reaches (ctx : Context) (s : Sought) (table : List ℕ) (at child before left : ℕ) (effect : Bool) (looks : ℕ) : Type 0 where
   pub here : Searchable table at
-  pub children : nodeAt table (16 * at) .children ≡ 0 → ⊥
   pub other : is 4 (nodeOf (nodeAt table (16 * at))) ≡ false
   pub kept : cleared (nodeOf (nodeAt table (16 * at))) .flags ≡ nodeAt table (16 * at) .flags
   pub own : linkLooks (nodeAt table (16 * at)) ≡ ownLooks (nodeOf (nodeAt table (16 * at)))
   pub steady : Steady ctx s table at
-  pub later : at < child
-  pub leaves : Leaves table (at + 1) child effect looks
-  pub some : left ≡ 0 → ⊥
-  pub many : left + child ≡ nodeAt table (16 * at) .children + at + 1
-  pub enters : isNothing (planAt table s at child) ≡ false
-  pub goes : Goes ctx s (OfChildren ctx s table at) (at + 1) table child left (planAt table s at child) effect looks
+  pub above : Above table at child before left effect looks
+  pub enters : isNothing (planAt table s at before) ≡ false
+  pub goes : Goes ctx s (OfChildren ctx s table at) (at + 1) table child left (planAt table s at before) effect looks
+
+-- how many children are left from the first that is searched on, where that stands so far behind the node: all, or the value
+abbrev pub leftFrom : NodeRecord → ℕ → ℕ
+leftFrom n far = cond (eqb far 1) (n .children) 1
 
 -- the first child that is searched stands so far behind the node at `at`
 abbrev pub EntersAt : Context → Sought → List ℕ → ℕ → ℕ → Type 0
-EntersAt ctx s table at far = Reaches ctx s table at (at + far) (nodeAt table (16 * at) .children + 1 - far) false 0
+EntersAt ctx s table at far = (before : ℕ) × Reaches ctx s table at (at + far) before (leftFrom (nodeAt table (16 * at)) far) false 0
 
--- such nodes from number `at` to number `end`, each a child of the one before, behind leaves, with the looks on the way
+-- such nodes from number `at` to number `end`, each a child of the one before, with the looks on the way
 pub data Links (ctx : Context) (s : Sought) (table : List ℕ) (at : ℕ) : ℕ → ℕ → Type 0 where
   start : {end : ℕ} → end ≡ at → Links ctx s table at end 0
-  link : {next end left looks seen : ℕ} {effect : Bool} → Reaches ctx s table next end left effect looks → Links ctx s table at next seen
+  link : {next end before left looks seen : ℕ} {effect : Bool} → Reaches ctx s table next end before left effect looks → Links ctx s table at next seen
       → Links ctx s table at end (seen + (ownLooks (nodeOf (nodeAt table (16 * next))) + looks))
 
 -- the way down from `at`: the node that it has come to, and the looks on it
@@ -158,19 +171,22 @@ pub record LinksTo (ctx : Context) (s : Sought) (table : List ℕ) (at end looks
 -- on it: the node `link` was gone through last, and `left` of its children are left; at first, there is none
 pub data Going (ctx : Context) (s : Sought) (table : List ℕ) (at next left : ℕ) (link : NodeRecord) : ℕ → Type 0 where
   begun : next ≡ at → left ≡ 1 → Going ctx s table at next left link 0
-  through : {above looks seen : ℕ} {effect : Bool} → link ≡ nodeAt table (16 * above) → Reaches ctx s table above next left effect looks → Links ctx s table at above seen
+  through : {above before looks seen : ℕ} {effect : Bool} → link ≡ nodeAt table (16 * above) → Reaches ctx s table above next before left effect looks → Links ctx s table at above seen
       → Going ctx s table at next left link (seen + (ownLooks (nodeOf (nodeAt table (16 * above))) + looks))
 
 -- a node before number `end` that is no leaf
 abbrev pub SomeNode : List ℕ → ℕ → Type 0
 SomeNode table end = (k : ℕ) × (k < end) × (isLeaf (nodeAt table (16 * k)) ≡ false)
 
--- the last of them, with its own look, and the leaves behind it
-pub record LeavesBefore (table : List ℕ) (end : ℕ) (b : Before) : Type 0 where
-  pub sooner : b .link .0 < end
-  pub other : isLeaf (nodeAt table (16 * b .link .0)) ≡ false
-  pub leaves : Leaves table (b .link .0 + 1) end (b .effect) (b .looks)
-  pub own : b .own ≡ ownLooks (nodeOf (nodeAt table (16 * b .link .0)))
+-- some node is above the one at `child`
+abbrev pub SomeAbove : List ℕ → ℕ → Type 0
+SomeAbove table child = (at : ℕ) × (before : ℕ) × (left : ℕ) × (effect : Bool) × (looks : ℕ) × Above table at child before left effect looks
+
+-- it is this one
+abbrev pub IsAbove : List ℕ → ℕ → Before → Type 0
+IsAbove table child b =
+    (at before left : ℕ) (effect : Bool) (looks : ℕ) → Above table at child before left effect looks
+    → b ≡ record { link = record { 0 = at }; before = before; left = left - 1; looks = looks; own = ownLooks (nodeOf (nodeAt table (16 * at))); effect = effect }
 
 -- The tree behind the links was searched, and so were the trees of those links that stand from `end` on; `looks` are those
 -- on the way to it.
@@ -180,16 +196,16 @@ pub record Within (ctx : Context) (s : Sought) (table₀ table : List ℕ) (at e
   pub did : Searches ctx s table₀ table end w
   pub same : length table ≡ length table₀
 
--- The child of a link was searched behind its leaves, and the name was not found.
-pub record ChildSearched (ctx : Context) (s : Sought) (table₀ table : List ℕ) (b : Before) (child left : ℕ) (w : Walked) : Type 0 where
-  pub reaches : Reaches ctx s table₀ (b .link .0) child left (b .effect) (b .looks)
+-- The child of a link was searched, and the name was not found.
+pub record ChildSearched (ctx : Context) (s : Sought) (table₀ table : List ℕ) (b : Before) (child : ℕ) (w : Walked) : Type 0 where
+  pub reaches : Reaches ctx s table₀ (b .link .0) child (b .before) (b .left + 1) (b .effect) (b .looks)
   pub did : Searches ctx s table₀ table child w
   pub not-found : isReplaced (w .answer) ≡ false
   pub same : length table ≡ length table₀
 
 abbrev pub SomeChildSearched : Context → Sought → List ℕ → Before → ℕ → Walked → Type 0
-SomeChildSearched ctx s table b child w = (table₀ : List ℕ) × (left : ℕ) × ChildSearched ctx s table₀ table b child left w
+SomeChildSearched ctx s table b child w = (table₀ : List ℕ) × ChildSearched ctx s table₀ table b child w
 
 -- then the link itself is
 abbrev pub SearchesBehind : Context → Sought → List ℕ → List ℕ → Before → ℕ → Walked → Walked → Type 0
-SearchesBehind ctx s table table′ b child w r = (table₀ : List ℕ) (left : ℕ) → ChildSearched ctx s table₀ table b child left w → Searches ctx s table₀ table′ (b .link .0) r
+SearchesBehind ctx s table table′ b child w r = (table₀ : List ℕ) → ChildSearched ctx s table₀ table b child w → Searches ctx s table₀ table′ (b .link .0) r

@@ -5,10 +5,10 @@ ghost use Prim.Native.Nat.{_*_, _≤_};
 ghost use lib.ListN.{length};
 ghost use Rattle.records.specs.Record.{headerOf, nodeAt};
 ghost use Rattle.records.specs.File.{fileLength, read};
-ghost use Rattle.walk.specs.Context.{Context, contextOf};
+ghost use Rattle.walk.specs.Context.{contextOf};
 ghost use Rattle.plans.specs.Described.{Known};
 ghost use Rattle.plans.specs.Search.{Searchable};
-ghost use Rattle.substitute.specs.Links.{EntersAt, LinksTo, SomeNode, LeavesBefore};
+ghost use Rattle.substitute.specs.Links.{EntersAt, leftFrom, LinksTo, SomeAbove, IsAbove};
 use crate::leaf::is_leaf;
 use crate::leaf::leaf_effect;
 use crate::leaf::leaf_looks;
@@ -18,42 +18,102 @@ use crate::links::is_link;
 use crate::links::link_looks;
 use crate::node::own_looks;
 use plans::sought::Sought;
+use plans::target::may_depend_on_side_effect;
 use records::layout::Header;
 use records::layout::NodeId;
 use records::layout::NodeRecord;
 use records::number::size;
 use table::work_node;
 
-// An assignment to a bare name or an opaque target, which doesn't end the search: its value is searched.
-fn enters_value(nodes: &[u8], at: NodeId, n: NodeRecord, s: Sought) -> bool
+// An assignment whose target is a member of a leaf and doesn't end the search.
+fn passes_member(file: &[u8], h: Header, nodes: &[u8], at: NodeId, n: NodeRecord, s: Sought) -> bool
+    requires { ⌜ h ≡ headerOf (now file) ⌝ }
+    requires { ⌜ length (now file) ≡ fileLength h ⌝ }
     requires { ⌜ Searchable (now nodes) (at .0) ⌝ }
     requires { ⌜ n ≡ nodeAt (now nodes) (16 * at .0) ⌝ }
-    ensures { λ r. ⌜ (r ≡ true → (ctx : Context) → Known s → EntersAt ctx s (now (nodes .entry)) (at .0) 2) ⌝ }
+    requires { ⌜ n .kind ≡ 20 ⌝ }
+    requires { ⌜ n .children ≡ 2 ⌝ }
+    ensures { λ r. ⌜ (r ≡ true → Known s → EntersAt (contextOf (read (now (file .entry)))) s (now (nodes .entry)) (at .0) 3) ⌝ }
 {
-    if !((n.kind == 20) & (n.children == 2)) {
+    let first = NodeId(at.0 + 1);
+    let target = work_node(nodes, first);
+    if !((target.kind == 10) | (target.kind == 11)) {
         return false;
+    }
+    if !(target.children == 1) {
+        return false;
+    }
+    let object = work_node(nodes, NodeId(at.0 + 2));
+    let quiet = is_leaf(object) & !leaf_effect(object) & !(target.flags / 1 % 2 == 1);
+    if !quiet {
+        return false;
+    }
+    if s.effect {
+        if n.flags / 8 % 2 == 1 {
+            return false;
+        }
+        return !may_depend_on_side_effect(file, h, nodes, first, target);
+    }
+    true
+}
+
+// How far behind an assignment its value stands, where that is searched: 2 behind a bare target, 3 behind a member; else 0.
+fn value_distance(
+    file: &[u8],
+    h: Header,
+    nodes: &[u8],
+    at: NodeId,
+    n: NodeRecord,
+    s: Sought,
+) -> usize
+    requires { ⌜ h ≡ headerOf (now file) ⌝ }
+    requires { ⌜ length (now file) ≡ fileLength h ⌝ }
+    requires { ⌜ Searchable (now nodes) (at .0) ⌝ }
+    requires { ⌜ n ≡ nodeAt (now nodes) (16 * at .0) ⌝ }
+    ensures { λ r. ⌜ ((r ≡ 0 → ⊥) → Known s → EntersAt (contextOf (read (now (file .entry)))) s (now (nodes .entry)) (at .0) r) ⌝ }
+{
+    if !(n.kind == 20) {
+        return 0;
+    }
+    if !(n.children == 2) {
+        return 0;
     }
     let target = work_node(nodes, NodeId(at.0 + 1));
     let name = target.kind == 29;
     let bare = is_leaf(target) & !leaf_effect(target) & (name | (target.kind == 30));
     let compound = n.flags / 8 % 2 == 1;
-    bare & (!s.effect | name & !compound)
+    if bare & (!s.effect | name & !compound) {
+        return 2;
+    }
+    if passes_member(file, h, nodes, at, n, s) {
+        return 3;
+    }
+    0
 }
 
-// How far behind a node its first child stands that is searched: 1, or 2 behind a target; 0, if the search doesn't go down
-// through the node.
-fn distance(nodes: &[u8], at: NodeId, n: NodeRecord, s: Sought) -> usize
+// How far behind a node its first child stands that is searched: 1, or further behind a target; 0, if the search doesn't go
+// down through the node.
+fn distance(file: &[u8], h: Header, nodes: &[u8], at: NodeId, n: NodeRecord, s: Sought) -> usize
+    requires { ⌜ h ≡ headerOf (now file) ⌝ }
+    requires { ⌜ length (now file) ≡ fileLength h ⌝ }
     requires { ⌜ Searchable (now nodes) (at .0) ⌝ }
     requires { ⌜ n ≡ nodeAt (now nodes) (16 * at .0) ⌝ }
-    ensures { λ r. ⌜ ((r ≡ 0 → ⊥) → (ctx : Context) → Known s → EntersAt ctx s (now (nodes .entry)) (at .0) r) ⌝ }
+    ensures { λ r. ⌜ ((r ≡ 0 → ⊥) → Known s → EntersAt (contextOf (read (now (file .entry)))) s (now (nodes .entry)) (at .0) r) ⌝ }
 {
     if is_link(n, s) {
         return 1;
     }
-    if enters_value(nodes, at, n, s) {
-        return 2;
+    value_distance(file, h, nodes, at, n, s)
+}
+
+// So many of a node's children are left from the first that is searched on.
+fn left_from(n: NodeRecord, far: usize) -> usize
+    ensures { λ r. ⌜ r ≡ leftFrom n far ⌝ }
+{
+    if far == 1 {
+        return size(n.children);
     }
-    0
+    1
 }
 
 // Where the way down ends, and the looks on it.
@@ -91,13 +151,13 @@ pub(crate) fn behind_links(file: &[u8], h: Header, nodes: &[u8], at: NodeId, s: 
             next += 1;
             left -= 1;
         } else {
-            let step = distance(nodes, NodeId(next), n, s);
+            let step = distance(file, h, nodes, NodeId(next), n, s);
             if step == 0 {
                 break;
             }
             looks += link_looks(n);
             next += step;
-            left = size(n.children) + 1 - step;
+            left = left_from(n, step);
             link = n;
         }
         n = work_node(nodes, NodeId(next));
@@ -108,20 +168,23 @@ pub(crate) fn behind_links(file: &[u8], h: Header, nodes: &[u8], at: NodeId, s: 
     }
 }
 
-// The link that a child belongs to, with its own look, and its leaves before that child: their looks, and whether one has an
-// effect.
+// The node above a child, with its own look; how many of its children stand before that child, their looks and whether one has
+// an effect; and how many are left behind it.
 pub(crate) struct Before {
     pub link: NodeId,
+    pub before: usize,
+    pub left: usize,
     pub looks: usize,
     pub own: usize,
     pub effect: bool,
 }
 
-// The leaves before a child, back to the first node that is none.
+// The way back from a child: past leaves to the first node that is none. If these are all of its children, it is the target of
+// the assignment before it.
 pub(crate) fn leaves_before(nodes: &[u8], child: NodeId) -> Before
     requires { ⌜ 16 * child .0 ≤ length (now nodes) ⌝ }
-    requires { ⌜ SomeNode (now nodes) (child .0) ⌝ }
-    ensures { λ r. ⌜ LeavesBefore (now (nodes .entry)) (child .0) r ⌝ }
+    requires { ⌜ SomeAbove (now nodes) (child .0) ⌝ }
+    ensures { λ r. ⌜ IsAbove (now (nodes .entry)) (child .0) r ⌝ }
 {
     let mut link = child.0 - 1;
     let mut looks: usize = 0;
@@ -133,8 +196,23 @@ pub(crate) fn leaves_before(nodes: &[u8], child: NodeId) -> Before
         link -= 1;
         n = work_node(nodes, NodeId(link));
     }
+    let before = child.0 - link - 1;
+    let many = size(n.children);
+    if many == before {
+        let above = NodeId(link - 1);
+        return Before {
+            link: above,
+            before: 1,
+            left: 0,
+            looks: 0,
+            own: own_looks(work_node(nodes, above)),
+            effect: false,
+        };
+    }
     Before {
         link: NodeId(link),
+        before,
+        left: many - before - 1,
         looks,
         own: own_looks(n),
         effect,

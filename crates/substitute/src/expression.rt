@@ -44,7 +44,6 @@ use plans::walked::is_passed;
 use plans::walked::is_replaced;
 use records::layout::Header;
 use records::layout::NodeId;
-use records::number::size;
 use table::work_node;
 
 // One child is left, and the plan enters it.
@@ -87,7 +86,7 @@ pub fn substitute_single_use_symbol_in_expression(
     gathered(false, looks, w)
 }
 
-// The search of a link, from that of its child `child`, where the name was not found; the leaves before that child are passed.
+// The search of a link, from that of its child `child`, where the name was not found; what stands before that child is passed.
 fn behind_child(
     file: &[u8],
     h: Header,
@@ -105,8 +104,8 @@ fn behind_child(
 {
     let at = b.link;
     let n = work_node(nodes, at);
-    let left = size(n.children) + at.0 - child.0;
-    let now = plan_behind(link_plan(n, s), child.0 - at.0 - 1);
+    let left = b.left;
+    let now = plan_behind(link_plan(n, s), b.before);
     let answer = w.answer;
     let end = w.next;
     if !is_passed(answer) {

@@ -9,15 +9,15 @@ use Rattle.records.specs.Record.{nodeAt}
 use Rattle.records.specs.File.{read}
 use Rattle.walk.specs.Context.{contextOf}
 use Rattle.plans.specs.Search.{Searchable}
-use Rattle.substitute.specs.Links.{Going, begun}
+use Rattle.substitute.specs.Links.{leftFrom, Going, begun}
 use Rattle.substitute.proofs.Searching.{searchable-room}
 use Rattle.substitute.proofs.Reaching.{going-links, going-seen, going-on, going-down, going-as}
 use Rattle.substitute.proofs.descent.behind_links.Statement.{statement}
 use Rattle.substitute.proofs.descent.behind_links.Tie as tie
 use Rattle.substitute.proofs.descent.behind_links.Reads as reads
 use Rattle.substitute.proofs.descent.behind_links.Lts as lts
-use Rattle.records.proofs.number.size.Reads as size-reads
 use Rattle.substitute.proofs.descent.distance.Reads as distance-reads
+use Rattle.substitute.proofs.descent.left_from.Reads as left-from-reads
 use Rattle.substitute.proofs.leaf.leaf_looks.Reads as leaf-looks-reads
 use Rattle.substitute.proofs.leaf.passes_leaf.Reads as passes-leaf-reads
 use Rattle.substitute.proofs.links.enters_all.Reads as enters-all-reads
@@ -55,7 +55,7 @@ sub-left : tie.Need-sub-left Inv-loop μ-loop
 sub-left c = omega (arith, (c .before .before .before .before .before .if2) .left)
 
 distance-requires : tie.Need-distance-requires Inv-loop μ-loop
-distance-requires c κs = ((c .before .before .loop) .inv .1 .0, (c .before .before .loop) .inv .0)
+distance-requires c κs = ((c .before .before .before .before .before .before) .pre .0, ((c .before .before .before .before .before .before) .pre .1 .0, ((c .before .before .loop) .inv .1 .0, (c .before .before .loop) .inv .0)))
 
 link-looks-requires : tie.Need-link-looks-requires Inv-loop μ-loop
 link-looks-requires c κs = tt
@@ -64,25 +64,19 @@ add-looks-2 : tie.Need-add-looks-2 Inv-loop μ-loop
 add-looks-2 c = omega (arith, (c .link-looks) .ensures .1, searchable-room ((c .before .before .before .before .before .loop) .inv .1 .0), going-seen (contextOf (read ((c .before .before .before .before .before .before .before .before .before) .args .file .now))) ((c .before .before .before .before .before .before .before .before .before) .args .s) ((c .before .before .before .before .before .loop) .inv .1 .1))
 
 add-next-2 : tie.Need-add-next-2 Inv-loop μ-loop
-add-next-2 c = let x = (c .before .before .distance) .ensures ((c .before .if5) .left) (contextOf (read ((c .before .before .before .before .before .before .before .before .before) .args .file .now))) ((c .before .before .before .before .before .before .before .before .before) .pre .1 .1 .1) in omega (arith, searchable-room (going-down (contextOf (read ((c .before .before .before .before .before .before .before .before .before) .args .file .now))) ((c .before .before .before .before .before .before .before .before .before) .args .s) ((c .before .before .before .before .before .loop) .inv .1 .1) ((c .before .before .before .before .before .loop) .n) ((c .before .before .before .before .before .loop) .inv .0) ((c .before .before .distance) .result) x ((c .link-looks) .result) ((c .link-looks) .ensures .0) ((c .before .before .before .before .before .loop) .n .children) refl .0))
+add-next-2 c = let x = (c .before .before .distance) .ensures ((c .before .if5) .left) ((c .before .before .before .before .before .before .before .before .before) .pre .1 .1 .1) in omega (arith, searchable-room (going-down (contextOf (read ((c .before .before .before .before .before .before .before .before .before) .args .file .now))) ((c .before .before .before .before .before .before .before .before .before) .args .s) ((c .before .before .before .before .before .loop) .inv .1 .1) ((c .before .before .before .before .before .loop) .n) ((c .before .before .before .before .before .loop) .inv .0) ((c .before .before .distance) .result) x ((c .link-looks) .result) ((c .link-looks) .ensures .0) (leftFrom ((c .before .before .before .before .before .loop) .n) ((c .before .before .distance) .result)) refl .0))
 
-size-requires : tie.Need-size-requires Inv-loop μ-loop
-size-requires c κs = tt
-
-add-left : tie.Need-add-left Inv-loop μ-loop
-add-left c = omega (arith, (c .size) .ensures .0, (c .size) .ensures .1)
-
-sub-left-2 : tie.Need-sub-left-2 Inv-loop μ-loop
-sub-left-2 c = let x = (c .before .before .before .distance) .ensures ((c .before .before .if5) .left) (contextOf (read ((c .before .before .before .before .before .before .before .before .before .before) .args .file .now))) ((c .before .before .before .before .before .before .before .before .before .before) .pre .1 .1 .1) in omega (arith, x .some, (c .size) .ensures .0, ap (λ y. y .children) ((c .before .before .before .before .before .before .loop) .inv .0))
+left-from-requires : tie.Need-left-from-requires Inv-loop μ-loop
+left-from-requires c κs = tt
 
 work-node-requires-2 : tie.Need-work-node-requires-2 Inv-loop μ-loop
-work-node-requires-2 c κs = let ctx = contextOf (read ((c .before .before .before .before .before .before) .args .file .now)) in let s = (c .before .before .before .before .before .before) .args .s in let t = (c .before .before .before .before .before .before) .args .nodes .now in let g = ⊎-elim (λ x. going-as ctx s t ((c .before .before .before .before .before .before) .args .at .0) (x .7) (x .8) (x .9) (x .10) (going-on ctx s ((c .before .before .before .before .before .before) .pre .1 .1 .1) ((c .before .before .loop) .inv .1 .1) ((c .before .before .loop) .n) ((c .before .before .loop) .inv .0) (x .1 .left) (x .2 .ensures (not-false (x .2 .result) (x .3 .left))) (x .4 .ensures (not-false (x .4 .result) (x .5 .left))) (x .6 .result) (x .6 .ensures .0 ((x .4 .ensures (not-false (x .4 .result) (x .5 .left))) .bare)))) (λ y. going-as ctx s t ((c .before .before .before .before .before .before) .args .at .0) (y .5) (y .6) (y .7) (y .8) (going-down ctx s ((c .before .before .loop) .inv .1 .1) ((c .before .before .loop) .n) ((c .before .before .loop) .inv .0) (y .1 .result) (y .1 .ensures (y .2 .left) ctx ((c .before .before .before .before .before .before) .pre .1 .1 .1)) (y .3 .result) (y .3 .ensures .0) (y .4 .result) (y .4 .ensures .0))) ((c .if1) .came) in searchable-room (g .0)
+work-node-requires-2 c κs = let ctx = contextOf (read ((c .before .before .before .before .before .before) .args .file .now)) in let s = (c .before .before .before .before .before .before) .args .s in let t = (c .before .before .before .before .before .before) .args .nodes .now in let g = ⊎-elim (λ x. going-as ctx s t ((c .before .before .before .before .before .before) .args .at .0) (x .7) (x .8) (x .9) (x .10) (going-on ctx s ((c .before .before .before .before .before .before) .pre .1 .1 .1) ((c .before .before .loop) .inv .1 .1) ((c .before .before .loop) .n) ((c .before .before .loop) .inv .0) (x .1 .left) (x .2 .ensures (not-false (x .2 .result) (x .3 .left))) (x .4 .ensures (not-false (x .4 .result) (x .5 .left))) (x .6 .result) (x .6 .ensures .0 ((x .4 .ensures (not-false (x .4 .result) (x .5 .left))) .bare)))) (λ y. going-as ctx s t ((c .before .before .before .before .before .before) .args .at .0) (y .5) (y .6) (y .7) (y .8) (going-down ctx s ((c .before .before .loop) .inv .1 .1) ((c .before .before .loop) .n) ((c .before .before .loop) .inv .0) (y .1 .result) (y .1 .ensures (y .2 .left) ((c .before .before .before .before .before .before) .pre .1 .1 .1)) (y .3 .result) (y .3 .ensures .0) (y .4 .result) (y .4 .ensures))) ((c .if1) .came) in searchable-room (g .0)
 
 loop-less : tie.Need-loop-less Inv-loop μ-loop
 loop-less c = let far : (c .before .before .before .loop) .next < (c .before .if1) .next = ⊎-elim (λ x. omega (arith, x .7)) (λ y. omega (arith, y .5, y .2 .left)) ((c .before .if1) .came) in omega (arith, far, searchable-room ((c .before .before .before .loop) .inv .1 .0))
 
 loop-again : tie.Need-loop-again Inv-loop μ-loop
-loop-again c = let ctx = contextOf (read ((c .before .before .before .before .before .before .before) .args .file .now)) in let s = (c .before .before .before .before .before .before .before) .args .s in let t = (c .before .before .before .before .before .before .before) .args .nodes .now in ((c .work-node2) .ensures, ⊎-elim (λ x. going-as ctx s t ((c .before .before .before .before .before .before .before) .args .at .0) (x .7) (x .8) (x .9) (x .10) (going-on ctx s ((c .before .before .before .before .before .before .before) .pre .1 .1 .1) ((c .before .before .before .loop) .inv .1 .1) ((c .before .before .before .loop) .n) ((c .before .before .before .loop) .inv .0) (x .1 .left) (x .2 .ensures (not-false (x .2 .result) (x .3 .left))) (x .4 .ensures (not-false (x .4 .result) (x .5 .left))) (x .6 .result) (x .6 .ensures .0 ((x .4 .ensures (not-false (x .4 .result) (x .5 .left))) .bare)))) (λ y. going-as ctx s t ((c .before .before .before .before .before .before .before) .args .at .0) (y .5) (y .6) (y .7) (y .8) (going-down ctx s ((c .before .before .before .loop) .inv .1 .1) ((c .before .before .before .loop) .n) ((c .before .before .before .loop) .inv .0) (y .1 .result) (y .1 .ensures (y .2 .left) ctx ((c .before .before .before .before .before .before .before) .pre .1 .1 .1)) (y .3 .result) (y .3 .ensures .0) (y .4 .result) (y .4 .ensures .0))) ((c .before .if1) .came))
+loop-again c = let ctx = contextOf (read ((c .before .before .before .before .before .before .before) .args .file .now)) in let s = (c .before .before .before .before .before .before .before) .args .s in let t = (c .before .before .before .before .before .before .before) .args .nodes .now in ((c .work-node2) .ensures, ⊎-elim (λ x. going-as ctx s t ((c .before .before .before .before .before .before .before) .args .at .0) (x .7) (x .8) (x .9) (x .10) (going-on ctx s ((c .before .before .before .before .before .before .before) .pre .1 .1 .1) ((c .before .before .before .loop) .inv .1 .1) ((c .before .before .before .loop) .n) ((c .before .before .before .loop) .inv .0) (x .1 .left) (x .2 .ensures (not-false (x .2 .result) (x .3 .left))) (x .4 .ensures (not-false (x .4 .result) (x .5 .left))) (x .6 .result) (x .6 .ensures .0 ((x .4 .ensures (not-false (x .4 .result) (x .5 .left))) .bare)))) (λ y. going-as ctx s t ((c .before .before .before .before .before .before .before) .args .at .0) (y .5) (y .6) (y .7) (y .8) (going-down ctx s ((c .before .before .before .loop) .inv .1 .1) ((c .before .before .before .loop) .n) ((c .before .before .before .loop) .inv .0) (y .1 .result) (y .1 .ensures (y .2 .left) ((c .before .before .before .before .before .before .before) .pre .1 .1 .1)) (y .3 .result) (y .3 .ensures .0) (y .4 .result) (y .4 .ensures))) ((c .before .if1) .came))
 
 returns : tie.Need-returns Inv-loop μ-loop
 returns c = record { links = going-links (contextOf (read ((c .before .before .before .before .before .before .before) .args .file .now))) ((c .before .before .before .before .before .before .before) .args .s) ((c .before .before .before .loop) .inv .1 .1); here = (c .before .before .before .loop) .inv .1 .0 }
@@ -114,9 +108,7 @@ behind-links-spec =
     link-looks-requires
     add-looks-2
     add-next-2
-    size-requires
-    add-left
-    sub-left-2
+    left-from-requires
     work-node-requires-2
     loop-less
     loop-again

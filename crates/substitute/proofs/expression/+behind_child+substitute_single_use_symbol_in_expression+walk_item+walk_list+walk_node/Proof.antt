@@ -25,7 +25,7 @@ use Rattle.substitute.proofs.Searching.{searchable-stands, searchable-r
 use Rattle.substitute.proofs.Nodes.{is-one-of, one-searched, node-searched, begun-row, others-searchable, row-room, row-looks-most, looks-in-room}
 use Rattle.substitute.specs.Links.{linkPlan, planBehind, Goes, OfRow, Within}
 use Rattle.substitute.specs.OfNode.{behind, movesLeaf, passesName}
-use Rattle.substitute.proofs.Chain.{plan-enters, children-row, link-searched, links-seen, behind-room, behind-row, behind-seen, behind-looks, behind-left, same-left, plan-was, row-ended, row-branches, row-last, row-all, child-behind, within-looks, within-room, within-node, before-room, before-later, before-looks, within-link, within-child, within-all}
+use Rattle.substitute.proofs.Chain.{plan-enters, children-row, link-searched, links-seen, behind-room, behind-row, behind-seen, behind-looks, plan-was, row-ended, row-branches, row-last, row-all, child-behind, within-looks, within-room, within-above, before-sooner, before-room, before-later, before-looks, within-link, within-child, within-all}
 use Rattle.substitute.proofs.Leaves.{or-first, leaf-by}
 use Rattle.substitute.proofs.Moving.{link-moved}
 use Rattle.substitute.proofs.Going.{goes-start, goes-on, goes-to}
@@ -55,7 +55,6 @@ use Rattle.plans.proofs.plan.is_nothing.Reads as is-nothing-reads
 use Rattle.plans.proofs.plan.next_plan.Reads as next-plan-reads
 use Rattle.plans.proofs.walked.is_passed.Reads as is-passed-reads
 use Rattle.plans.proofs.walked.is_replaced.Reads as is-replaced-reads
-use Rattle.records.proofs.number.size.Reads as size-reads
 use Rattle.substitute.proofs.descent.behind_links.Reads as behind-links-reads
 use Rattle.substitute.proofs.descent.leaves_before.Reads as leaves-before-reads
 use Rattle.substitute.proofs.expression.is_one.Reads as is-one-reads
@@ -161,116 +160,101 @@ abbrev walk-node-below : ℕ → In 2 walk-node-kinds.ps
 walk-node-below t =
     and 2 walk-node-kinds.ps (falls 2 walk-node-kinds.ps _<_ μ-walk-node t) walk-node.Pre
 
-behind-child-work-node-requires : (t : ℕ) → behind-child-lts.Need-work-node-requires (work-node-reads.Asked, work-node-reads.Learnt, size-reads.Asked, size-reads.Learnt, link-plan-reads.Asked, link-plan-reads.Learnt, plan-behind-reads.Asked, plan-behind-reads.Learnt, is-passed-reads.Asked, is-passed-reads.Learnt, is-branches-reads.Asked, is-branches-reads.Learnt, walk-list-below t, walk-list.Post, either-reads.Asked, either-reads.Learnt, gathered-reads.Asked, gathered-reads.Learnt, of-answered-reads.Asked, of-answered-reads.Learnt, pass-row-reads.Asked, pass-row-reads.Learnt, stopped-reads.Asked, stopped-reads.Learnt, of-passed-reads.Asked, of-passed-reads.Learnt, next-plan-reads.Asked, next-plan-reads.Learnt) (behind-child-at t) behind-child.Post
-behind-child-work-node-requires t c κs = behind-room (contextOf (read ((c .before .before .before .before) .args .file .now))) ((c .before .before .before .before) .args .s) ((c .before .before .before .before) .pre .1 .1 .1 .0) ((c .before .before .before .before) .pre .1 .1 .1 .1 .2)
+behind-child-work-node-requires : (t : ℕ) → behind-child-lts.Need-work-node-requires (work-node-reads.Asked, work-node-reads.Learnt, link-plan-reads.Asked, link-plan-reads.Learnt, plan-behind-reads.Asked, plan-behind-reads.Learnt, is-passed-reads.Asked, is-passed-reads.Learnt, is-branches-reads.Asked, is-branches-reads.Learnt, walk-list-below t, walk-list.Post, either-reads.Asked, either-reads.Learnt, gathered-reads.Asked, gathered-reads.Learnt, of-answered-reads.Asked, of-answered-reads.Learnt, pass-row-reads.Asked, pass-row-reads.Learnt, stopped-reads.Asked, stopped-reads.Learnt, of-passed-reads.Asked, of-passed-reads.Learnt, next-plan-reads.Asked, next-plan-reads.Learnt) (behind-child-at t) behind-child.Post
+behind-child-work-node-requires t c κs = behind-room (contextOf (read ((c .before .before .before .before) .args .file .now))) ((c .before .before .before .before) .args .s) ((c .before .before .before .before) .pre .1 .1 .1 .0) ((c .before .before .before .before) .pre .1 .1 .1 .1 .1)
 
-behind-child-size-requires : (t : ℕ) → behind-child-lts.Need-size-requires (work-node-reads.Asked, work-node-reads.Learnt, size-reads.Asked, size-reads.Learnt, link-plan-reads.Asked, link-plan-reads.Learnt, plan-behind-reads.Asked, plan-behind-reads.Learnt, is-passed-reads.Asked, is-passed-reads.Learnt, is-branches-reads.Asked, is-branches-reads.Learnt, walk-list-below t, walk-list.Post, either-reads.Asked, either-reads.Learnt, gathered-reads.Asked, gathered-reads.Learnt, of-answered-reads.Asked, of-answered-reads.Learnt, pass-row-reads.Asked, pass-row-reads.Learnt, stopped-reads.Asked, stopped-reads.Learnt, of-passed-reads.Asked, of-passed-reads.Learnt, next-plan-reads.Asked, next-plan-reads.Learnt) (behind-child-at t) behind-child.Post
-behind-child-size-requires t c κs = tt
-
-behind-child-add-left : (t : ℕ) → behind-child-lts.Need-add-left (work-node-reads.Asked, work-node-reads.Learnt, size-reads.Asked, size-reads.Learnt, link-plan-reads.Asked, link-plan-reads.Learnt, plan-behind-reads.Asked, plan-behind-reads.Learnt, is-passed-reads.Asked, is-passed-reads.Learnt, is-branches-reads.Asked, is-branches-reads.Learnt, walk-list-below t, walk-list.Post, either-reads.Asked, either-reads.Learnt, gathered-reads.Asked, gathered-reads.Learnt, of-answered-reads.Asked, of-answered-reads.Learnt, pass-row-reads.Asked, pass-row-reads.Learnt, stopped-reads.Asked, stopped-reads.Learnt, of-passed-reads.Asked, of-passed-reads.Learnt, next-plan-reads.Asked, next-plan-reads.Learnt) (behind-child-at t) behind-child.Post
-behind-child-add-left t c = omega (arith, (c .before .size) .ensures .0, (c .before .size) .ensures .1, behind-room (contextOf (read ((c .before .before .before .before .before .before .before) .args .file .now))) ((c .before .before .before .before .before .before .before) .args .s) ((c .before .before .before .before .before .before .before) .pre .1 .1 .1 .0) ((c .before .before .before .before .before .before .before) .pre .1 .1 .1 .1 .2), (c .before .before .before .before .before .before .before) .good .1 .1 .0)
-
-behind-child-sub-left : (t : ℕ) → behind-child-lts.Need-sub-left (work-node-reads.Asked, work-node-reads.Learnt, size-reads.Asked, size-reads.Learnt, link-plan-reads.Asked, link-plan-reads.Learnt, plan-behind-reads.Asked, plan-behind-reads.Learnt, is-passed-reads.Asked, is-passed-reads.Learnt, is-branches-reads.Asked, is-branches-reads.Learnt, walk-list-below t, walk-list.Post, either-reads.Asked, either-reads.Learnt, gathered-reads.Asked, gathered-reads.Learnt, of-answered-reads.Asked, of-answered-reads.Learnt, pass-row-reads.Asked, pass-row-reads.Learnt, stopped-reads.Asked, stopped-reads.Learnt, of-passed-reads.Asked, of-passed-reads.Learnt, next-plan-reads.Asked, next-plan-reads.Learnt) (behind-child-at t) behind-child.Post
-behind-child-sub-left t c = omega (arith, behind-left (contextOf (read ((c .before .before .before .before .before .before .before .before) .args .file .now))) ((c .before .before .before .before .before .before .before .before) .args .s) ((c .before .before .before .before .before .before .before .before) .pre .1 .1 .1 .0) ((c .before .before .before .before .before .before .before .before) .pre .1 .1 .1 .1 .2) ((c .before .before .before .work-node) .result) ((c .before .before .before .work-node) .ensures), ((c .before .before .before .before .before .before .before .before) .pre .1 .1 .1 .1 .2) .reaches .some, (c .before .before .size) .ensures .0)
-
-behind-child-link-plan-requires : (t : ℕ) → behind-child-lts.Need-link-plan-requires (work-node-reads.Asked, work-node-reads.Learnt, size-reads.Asked, size-reads.Learnt, link-plan-reads.Asked, link-plan-reads.Learnt, plan-behind-reads.Asked, plan-behind-reads.Learnt, is-passed-reads.Asked, is-passed-reads.Learnt, is-branches-reads.Asked, is-branches-reads.Learnt, walk-list-below t, walk-list.Post, either-reads.Asked, either-reads.Learnt, gathered-reads.Asked, gathered-reads.Learnt, of-answered-reads.Asked, of-answered-reads.Learnt, pass-row-reads.Asked, pass-row-reads.Learnt, stopped-reads.Asked, stopped-reads.Learnt, of-passed-reads.Asked, of-passed-reads.Learnt, next-plan-reads.Asked, next-plan-reads.Learnt) (behind-child-at t) behind-child.Post
+behind-child-link-plan-requires : (t : ℕ) → behind-child-lts.Need-link-plan-requires (work-node-reads.Asked, work-node-reads.Learnt, link-plan-reads.Asked, link-plan-reads.Learnt, plan-behind-reads.Asked, plan-behind-reads.Learnt, is-passed-reads.Asked, is-passed-reads.Learnt, is-branches-reads.Asked, is-branches-reads.Learnt, walk-list-below t, walk-list.Post, either-reads.Asked, either-reads.Learnt, gathered-reads.Asked, gathered-reads.Learnt, of-answered-reads.Asked, of-answered-reads.Learnt, pass-row-reads.Asked, pass-row-reads.Learnt, stopped-reads.Asked, stopped-reads.Learnt, of-passed-reads.Asked, of-passed-reads.Learnt, next-plan-reads.Asked, next-plan-reads.Learnt) (behind-child-at t) behind-child.Post
 behind-child-link-plan-requires t c κs = tt
 
-behind-child-sub-plan-behind : (t : ℕ) → behind-child-lts.Need-sub-plan-behind (work-node-reads.Asked, work-node-reads.Learnt, size-reads.Asked, size-reads.Learnt, link-plan-reads.Asked, link-plan-reads.Learnt, plan-behind-reads.Asked, plan-behind-reads.Learnt, is-passed-reads.Asked, is-passed-reads.Learnt, is-branches-reads.Asked, is-branches-reads.Learnt, walk-list-below t, walk-list.Post, either-reads.Asked, either-reads.Learnt, gathered-reads.Asked, gathered-reads.Learnt, of-answered-reads.Asked, of-answered-reads.Learnt, pass-row-reads.Asked, pass-row-reads.Learnt, stopped-reads.Asked, stopped-reads.Learnt, of-passed-reads.Asked, of-passed-reads.Learnt, next-plan-reads.Asked, next-plan-reads.Learnt) (behind-child-at t) behind-child.Post
-behind-child-sub-plan-behind t c = omega (arith, ((c .before .before .before .before .before .before .before .before .before .before .before) .pre .1 .1 .1 .1 .2) .reaches .later)
-
-behind-child-sub-plan-behind-2 : (t : ℕ) → behind-child-lts.Need-sub-plan-behind-2 (work-node-reads.Asked, work-node-reads.Learnt, size-reads.Asked, size-reads.Learnt, link-plan-reads.Asked, link-plan-reads.Learnt, plan-behind-reads.Asked, plan-behind-reads.Learnt, is-passed-reads.Asked, is-passed-reads.Learnt, is-branches-reads.Asked, is-branches-reads.Learnt, walk-list-below t, walk-list.Post, either-reads.Asked, either-reads.Learnt, gathered-reads.Asked, gathered-reads.Learnt, of-answered-reads.Asked, of-answered-reads.Learnt, pass-row-reads.Asked, pass-row-reads.Learnt, stopped-reads.Asked, stopped-reads.Learnt, of-passed-reads.Asked, of-passed-reads.Learnt, next-plan-reads.Asked, next-plan-reads.Learnt) (behind-child-at t) behind-child.Post
-behind-child-sub-plan-behind-2 t c = omega (arith, ((c .before .before .before .before .before .before .before .before .before .before .before) .pre .1 .1 .1 .1 .2) .reaches .later)
-
-behind-child-plan-behind-requires : (t : ℕ) → behind-child-lts.Need-plan-behind-requires (work-node-reads.Asked, work-node-reads.Learnt, size-reads.Asked, size-reads.Learnt, link-plan-reads.Asked, link-plan-reads.Learnt, plan-behind-reads.Asked, plan-behind-reads.Learnt, is-passed-reads.Asked, is-passed-reads.Learnt, is-branches-reads.Asked, is-branches-reads.Learnt, walk-list-below t, walk-list.Post, either-reads.Asked, either-reads.Learnt, gathered-reads.Asked, gathered-reads.Learnt, of-answered-reads.Asked, of-answered-reads.Learnt, pass-row-reads.Asked, pass-row-reads.Learnt, stopped-reads.Asked, stopped-reads.Learnt, of-passed-reads.Asked, of-passed-reads.Learnt, next-plan-reads.Asked, next-plan-reads.Learnt) (behind-child-at t) behind-child.Post
+behind-child-plan-behind-requires : (t : ℕ) → behind-child-lts.Need-plan-behind-requires (work-node-reads.Asked, work-node-reads.Learnt, link-plan-reads.Asked, link-plan-reads.Learnt, plan-behind-reads.Asked, plan-behind-reads.Learnt, is-passed-reads.Asked, is-passed-reads.Learnt, is-branches-reads.Asked, is-branches-reads.Learnt, walk-list-below t, walk-list.Post, either-reads.Asked, either-reads.Learnt, gathered-reads.Asked, gathered-reads.Learnt, of-answered-reads.Asked, of-answered-reads.Learnt, pass-row-reads.Asked, pass-row-reads.Learnt, stopped-reads.Asked, stopped-reads.Learnt, of-passed-reads.Asked, of-passed-reads.Learnt, next-plan-reads.Asked, next-plan-reads.Learnt) (behind-child-at t) behind-child.Post
 behind-child-plan-behind-requires t c κs = tt
 
-behind-child-is-passed-requires : (t : ℕ) → behind-child-lts.Need-is-passed-requires (work-node-reads.Asked, work-node-reads.Learnt, size-reads.Asked, size-reads.Learnt, link-plan-reads.Asked, link-plan-reads.Learnt, plan-behind-reads.Asked, plan-behind-reads.Learnt, is-passed-reads.Asked, is-passed-reads.Learnt, is-branches-reads.Asked, is-branches-reads.Learnt, walk-list-below t, walk-list.Post, either-reads.Asked, either-reads.Learnt, gathered-reads.Asked, gathered-reads.Learnt, of-answered-reads.Asked, of-answered-reads.Learnt, pass-row-reads.Asked, pass-row-reads.Learnt, stopped-reads.Asked, stopped-reads.Learnt, of-passed-reads.Asked, of-passed-reads.Learnt, next-plan-reads.Asked, next-plan-reads.Learnt) (behind-child-at t) behind-child.Post
+behind-child-is-passed-requires : (t : ℕ) → behind-child-lts.Need-is-passed-requires (work-node-reads.Asked, work-node-reads.Learnt, link-plan-reads.Asked, link-plan-reads.Learnt, plan-behind-reads.Asked, plan-behind-reads.Learnt, is-passed-reads.Asked, is-passed-reads.Learnt, is-branches-reads.Asked, is-branches-reads.Learnt, walk-list-below t, walk-list.Post, either-reads.Asked, either-reads.Learnt, gathered-reads.Asked, gathered-reads.Learnt, of-answered-reads.Asked, of-answered-reads.Learnt, pass-row-reads.Asked, pass-row-reads.Learnt, stopped-reads.Asked, stopped-reads.Learnt, of-passed-reads.Asked, of-passed-reads.Learnt, next-plan-reads.Asked, next-plan-reads.Learnt) (behind-child-at t) behind-child.Post
 behind-child-is-passed-requires t c κs = tt
 
-behind-child-is-branches-requires : (t : ℕ) → behind-child-lts.Need-is-branches-requires (work-node-reads.Asked, work-node-reads.Learnt, size-reads.Asked, size-reads.Learnt, link-plan-reads.Asked, link-plan-reads.Learnt, plan-behind-reads.Asked, plan-behind-reads.Learnt, is-passed-reads.Asked, is-passed-reads.Learnt, is-branches-reads.Asked, is-branches-reads.Learnt, walk-list-below t, walk-list.Post, either-reads.Asked, either-reads.Learnt, gathered-reads.Asked, gathered-reads.Learnt, of-answered-reads.Asked, of-answered-reads.Learnt, pass-row-reads.Asked, pass-row-reads.Learnt, stopped-reads.Asked, stopped-reads.Learnt, of-passed-reads.Asked, of-passed-reads.Learnt, next-plan-reads.Asked, next-plan-reads.Learnt) (behind-child-at t) behind-child.Post
+behind-child-is-branches-requires : (t : ℕ) → behind-child-lts.Need-is-branches-requires (work-node-reads.Asked, work-node-reads.Learnt, link-plan-reads.Asked, link-plan-reads.Learnt, plan-behind-reads.Asked, plan-behind-reads.Learnt, is-passed-reads.Asked, is-passed-reads.Learnt, is-branches-reads.Asked, is-branches-reads.Learnt, walk-list-below t, walk-list.Post, either-reads.Asked, either-reads.Learnt, gathered-reads.Asked, gathered-reads.Learnt, of-answered-reads.Asked, of-answered-reads.Learnt, pass-row-reads.Asked, pass-row-reads.Learnt, stopped-reads.Asked, stopped-reads.Learnt, of-passed-reads.Asked, of-passed-reads.Learnt, next-plan-reads.Asked, next-plan-reads.Learnt) (behind-child-at t) behind-child.Post
 behind-child-is-branches-requires t c κs = tt
 
-behind-child-walk-list-requires : (t : ℕ) → behind-child-lts.Need-walk-list-requires (work-node-reads.Asked, work-node-reads.Learnt, size-reads.Asked, size-reads.Learnt, link-plan-reads.Asked, link-plan-reads.Learnt, plan-behind-reads.Asked, plan-behind-reads.Learnt, is-passed-reads.Asked, is-passed-reads.Learnt, is-branches-reads.Asked, is-branches-reads.Learnt, walk-list-below t, walk-list.Post, either-reads.Asked, either-reads.Learnt, gathered-reads.Asked, gathered-reads.Learnt, of-answered-reads.Asked, of-answered-reads.Learnt, pass-row-reads.Asked, pass-row-reads.Learnt, stopped-reads.Asked, stopped-reads.Learnt, of-passed-reads.Asked, of-passed-reads.Learnt, next-plan-reads.Asked, next-plan-reads.Learnt) (behind-child-at t) behind-child.Post
-behind-child-walk-list-requires t c κs = (omega (arith, (c .before .before .before .before .before .before .before .before .before .before .before .before .before .before .before .before .before .before) .pre .0, behind-row (contextOf (read ((c .before .before .before .before .before .before .before .before .before .before .before .before .before .before .before .before .before .before) .args .file .now))) ((c .before .before .before .before .before .before .before .before .before .before .before .before .before .before .before .before .before .before) .args .s) ((c .before .before .before .before .before .before .before .before .before .before .before .before .before .before .before .before .before .before) .pre .1 .1 .1 .0) ((c .before .before .before .before .before .before .before .before .before .before .before .before .before .before .before .before .before .before) .pre .1 .1 .1 .1 .2) .1, ((c .before .before .before .before .before .before .before .before .before .before .before .before .before .before .before .before .before .before) .pre .1 .1 .1 .1 .2) .reaches .later, behind-room (contextOf (read ((c .before .before .before .before .before .before .before .before .before .before .before .before .before .before .before .before .before .before) .args .file .now))) ((c .before .before .before .before .before .before .before .before .before .before .before .before .before .before .before .before .before .before) .args .s) ((c .before .before .before .before .before .before .before .before .before .before .before .before .before .before .before .before .before .before) .pre .1 .1 .1 .0) ((c .before .before .before .before .before .before .before .before .before .before .before .before .before .before .before .before .before .before) .pre .1 .1 .1 .1 .2)), ((c .before .before .before .before .before .before .before .before .before .before .before .before .before .before .before .before .before .before) .pre .1 .0, ((c .before .before .before .before .before .before .before .before .before .before .before .before .before .before .before .before .before .before) .pre .1 .1 .0, ((subst (SearchableRow ((c .before .before .before .before .before .before .before .before .before .before .before .before .before .before .before .before .before .before) .args .nodes .now) ((c .before .before .before .before .before .before .before .before .before .before .before .before .before .before .before .before .before .before) .args .w .next .0)) (sym (same-left (contextOf (read ((c .before .before .before .before .before .before .before .before .before .before .before .before .before .before .before .before .before .before) .args .file .now))) ((c .before .before .before .before .before .before .before .before .before .before .before .before .before .before .before .before .before .before) .args .s) ((c .before .before .before .before .before .before .before .before .before .before .before .before .before .before .before .before .before .before) .pre .1 .1 .1 .0) ((c .before .before .before .before .before .before .before .before .before .before .before .before .before .before .before .before .before .before) .pre .1 .1 .1 .1 .2) ((c .before .before .before .before .before .before .before .before .before .before .before .before .before .work-node) .result) ((c .before .before .before .before .before .before .before .before .before .before .before .before .before .work-node) .ensures) ((c .before .before .before .before .before .before .before .before .before .before .before .before .size) .result) ((c .before .before .before .before .before .before .before .before .before .before .before .before .size) .ensures .0))) (behind-row (contextOf (read ((c .before .before .before .before .before .before .before .before .before .before .before .before .before .before .before .before .before .before) .args .file .now))) ((c .before .before .before .before .before .before .before .before .before .before .before .before .before .before .before .before .before .before) .args .s) ((c .before .before .before .before .before .before .before .before .before .before .before .before .before .before .before .before .before .before) .pre .1 .1 .1 .0) ((c .before .before .before .before .before .before .before .before .before .before .before .before .before .before .before .before .before .before) .pre .1 .1 .1 .1 .2) .0)), ((c .before .before .before .before .before .before .before .before .before .before .before .before .before .before .before .before .before .before) .pre .1 .1 .1 .0)))))
+behind-child-walk-list-requires : (t : ℕ) → behind-child-lts.Need-walk-list-requires (work-node-reads.Asked, work-node-reads.Learnt, link-plan-reads.Asked, link-plan-reads.Learnt, plan-behind-reads.Asked, plan-behind-reads.Learnt, is-passed-reads.Asked, is-passed-reads.Learnt, is-branches-reads.Asked, is-branches-reads.Learnt, walk-list-below t, walk-list.Post, either-reads.Asked, either-reads.Learnt, gathered-reads.Asked, gathered-reads.Learnt, of-answered-reads.Asked, of-answered-reads.Learnt, pass-row-reads.Asked, pass-row-reads.Learnt, stopped-reads.Asked, stopped-reads.Learnt, of-passed-reads.Asked, of-passed-reads.Learnt, next-plan-reads.Asked, next-plan-reads.Learnt) (behind-child-at t) behind-child.Post
+behind-child-walk-list-requires t c κs = (omega (arith, (c .before .before .before .before .before .before .before .before .before .before .before .before .before) .pre .0, behind-row (contextOf (read ((c .before .before .before .before .before .before .before .before .before .before .before .before .before) .args .file .now))) ((c .before .before .before .before .before .before .before .before .before .before .before .before .before) .args .s) ((c .before .before .before .before .before .before .before .before .before .before .before .before .before) .pre .1 .1 .1 .0) ((c .before .before .before .before .before .before .before .before .before .before .before .before .before) .pre .1 .1 .1 .1 .1) .1, ((c .before .before .before .before .before .before .before .before .before .before .before .before .before) .pre .1 .1 .1 .1 .1) .reaches .above .later, behind-room (contextOf (read ((c .before .before .before .before .before .before .before .before .before .before .before .before .before) .args .file .now))) ((c .before .before .before .before .before .before .before .before .before .before .before .before .before) .args .s) ((c .before .before .before .before .before .before .before .before .before .before .before .before .before) .pre .1 .1 .1 .0) ((c .before .before .before .before .before .before .before .before .before .before .before .before .before) .pre .1 .1 .1 .1 .1)), ((c .before .before .before .before .before .before .before .before .before .before .before .before .before) .pre .1 .0, ((c .before .before .before .before .before .before .before .before .before .before .before .before .before) .pre .1 .1 .0, ((behind-row (contextOf (read ((c .before .before .before .before .before .before .before .before .before .before .before .before .before) .args .file .now))) ((c .before .before .before .before .before .before .before .before .before .before .before .before .before) .args .s) ((c .before .before .before .before .before .before .before .before .before .before .before .before .before) .pre .1 .1 .1 .0) ((c .before .before .before .before .before .before .before .before .before .before .before .before .before) .pre .1 .1 .1 .1 .1) .0), ((c .before .before .before .before .before .before .before .before .before .before .before .before .before) .pre .1 .1 .1 .0)))))
 
-behind-child-either-requires : (t : ℕ) → behind-child-lts.Need-either-requires (work-node-reads.Asked, work-node-reads.Learnt, size-reads.Asked, size-reads.Learnt, link-plan-reads.Asked, link-plan-reads.Learnt, plan-behind-reads.Asked, plan-behind-reads.Learnt, is-passed-reads.Asked, is-passed-reads.Learnt, is-branches-reads.Asked, is-branches-reads.Learnt, walk-list-below t, walk-list.Post, either-reads.Asked, either-reads.Learnt, gathered-reads.Asked, gathered-reads.Learnt, of-answered-reads.Asked, of-answered-reads.Learnt, pass-row-reads.Asked, pass-row-reads.Learnt, stopped-reads.Asked, stopped-reads.Learnt, of-passed-reads.Asked, of-passed-reads.Learnt, next-plan-reads.Asked, next-plan-reads.Learnt) (behind-child-at t) behind-child.Post
-behind-child-either-requires t c κs = omega (arith, behind-row (contextOf (read ((c .before .before .before .before .before .before .before .before .before .before .before .before .before .before .before .before .before .before .before .before .before) .args .file .now))) ((c .before .before .before .before .before .before .before .before .before .before .before .before .before .before .before .before .before .before .before .before .before) .args .s) ((c .before .before .before .before .before .before .before .before .before .before .before .before .before .before .before .before .before .before .before .before .before) .pre .1 .1 .1 .0) ((c .before .before .before .before .before .before .before .before .before .before .before .before .before .before .before .before .before .before .before .before .before) .pre .1 .1 .1 .1 .2) .2, row-looks-most (contextOf (read ((c .before .before .before .before .before .before .before .before .before .before .before .before .before .before .before .before .before .before .before .before .before) .args .file .now))) ((c .before .before .before .before .before .before .before .before .before .before .before .before .before .before .before .before .before .before .before .before .before) .args .s) All ((c .before .before .before .before .before .before .before .before .before .before .before .before .before .before .before .before .before .before .before .before .before) .pre .1 .1 .1 .0) (subst (SearchableRow ((c .before .before .before .before .before .before .before .before .before .before .before .before .before .before .before .before .before .before .before .before .before) .args .nodes .now) ((c .before .before .before .before .before .before .before .before .before .before .before .before .before .before .before .before .before .before .before .before .before) .args .w .next .0)) (sym (same-left (contextOf (read ((c .before .before .before .before .before .before .before .before .before .before .before .before .before .before .before .before .before .before .before .before .before) .args .file .now))) ((c .before .before .before .before .before .before .before .before .before .before .before .before .before .before .before .before .before .before .before .before .before) .args .s) ((c .before .before .before .before .before .before .before .before .before .before .before .before .before .before .before .before .before .before .before .before .before) .pre .1 .1 .1 .0) ((c .before .before .before .before .before .before .before .before .before .before .before .before .before .before .before .before .before .before .before .before .before) .pre .1 .1 .1 .1 .2) ((c .before .before .before .before .before .before .before .before .before .before .before .before .before .before .before .before .work-node) .result) ((c .before .before .before .before .before .before .before .before .before .before .before .before .before .before .before .before .work-node) .ensures) ((c .before .before .before .before .before .before .before .before .before .before .before .before .before .before .before .size) .result) ((c .before .before .before .before .before .before .before .before .before .before .before .before .before .before .before .size) .ensures .0))) (behind-row (contextOf (read ((c .before .before .before .before .before .before .before .before .before .before .before .before .before .before .before .before .before .before .before .before .before) .args .file .now))) ((c .before .before .before .before .before .before .before .before .before .before .before .before .before .before .before .before .before .before .before .before .before) .args .s) ((c .before .before .before .before .before .before .before .before .before .before .before .before .before .before .before .before .before .before .before .before .before) .pre .1 .1 .1 .0) ((c .before .before .before .before .before .before .before .before .before .before .before .before .before .before .before .before .before .before .before .before .before) .pre .1 .1 .1 .1 .2) .0)) ((c .before .before .walk-list) .ensures), (c .before .before .before .before .before .before .before .before .before .before .before .before .before .before .before .before .before .before .before .before .before) .good .1 .1 .0)
+behind-child-either-requires : (t : ℕ) → behind-child-lts.Need-either-requires (work-node-reads.Asked, work-node-reads.Learnt, link-plan-reads.Asked, link-plan-reads.Learnt, plan-behind-reads.Asked, plan-behind-reads.Learnt, is-passed-reads.Asked, is-passed-reads.Learnt, is-branches-reads.Asked, is-branches-reads.Learnt, walk-list-below t, walk-list.Post, either-reads.Asked, either-reads.Learnt, gathered-reads.Asked, gathered-reads.Learnt, of-answered-reads.Asked, of-answered-reads.Learnt, pass-row-reads.Asked, pass-row-reads.Learnt, stopped-reads.Asked, stopped-reads.Learnt, of-passed-reads.Asked, of-passed-reads.Learnt, next-plan-reads.Asked, next-plan-reads.Learnt) (behind-child-at t) behind-child.Post
+behind-child-either-requires t c κs = omega (arith, behind-row (contextOf (read ((c .before .before .before .before .before .before .before .before .before .before .before .before .before .before .before .before) .args .file .now))) ((c .before .before .before .before .before .before .before .before .before .before .before .before .before .before .before .before) .args .s) ((c .before .before .before .before .before .before .before .before .before .before .before .before .before .before .before .before) .pre .1 .1 .1 .0) ((c .before .before .before .before .before .before .before .before .before .before .before .before .before .before .before .before) .pre .1 .1 .1 .1 .1) .2, row-looks-most (contextOf (read ((c .before .before .before .before .before .before .before .before .before .before .before .before .before .before .before .before) .args .file .now))) ((c .before .before .before .before .before .before .before .before .before .before .before .before .before .before .before .before) .args .s) All ((c .before .before .before .before .before .before .before .before .before .before .before .before .before .before .before .before) .pre .1 .1 .1 .0) (behind-row (contextOf (read ((c .before .before .before .before .before .before .before .before .before .before .before .before .before .before .before .before) .args .file .now))) ((c .before .before .before .before .before .before .before .before .before .before .before .before .before .before .before .before) .args .s) ((c .before .before .before .before .before .before .before .before .before .before .before .before .before .before .before .before) .pre .1 .1 .1 .0) ((c .before .before .before .before .before .before .before .before .before .before .before .before .before .before .before .before) .pre .1 .1 .1 .1 .1) .0) ((c .before .before .walk-list) .ensures), (c .before .before .before .before .before .before .before .before .before .before .before .before .before .before .before .before) .good .1 .1 .0)
 
-behind-child-gathered-requires : (t : ℕ) → behind-child-lts.Need-gathered-requires (work-node-reads.Asked, work-node-reads.Learnt, size-reads.Asked, size-reads.Learnt, link-plan-reads.Asked, link-plan-reads.Learnt, plan-behind-reads.Asked, plan-behind-reads.Learnt, is-passed-reads.Asked, is-passed-reads.Learnt, is-branches-reads.Asked, is-branches-reads.Learnt, walk-list-below t, walk-list.Post, either-reads.Asked, either-reads.Learnt, gathered-reads.Asked, gathered-reads.Learnt, of-answered-reads.Asked, of-answered-reads.Learnt, pass-row-reads.Asked, pass-row-reads.Learnt, stopped-reads.Asked, stopped-reads.Learnt, of-passed-reads.Asked, of-passed-reads.Learnt, next-plan-reads.Asked, next-plan-reads.Learnt) (behind-child-at t) behind-child.Post
-behind-child-gathered-requires t c κs = omega (arith, (c .either) .ensures .looks, behind-row (contextOf (read ((c .before .before .before .before .before .before .before .before .before .before .before .before .before .before .before .before .before .before .before .before .before .before) .args .file .now))) ((c .before .before .before .before .before .before .before .before .before .before .before .before .before .before .before .before .before .before .before .before .before .before) .args .s) ((c .before .before .before .before .before .before .before .before .before .before .before .before .before .before .before .before .before .before .before .before .before .before) .pre .1 .1 .1 .0) ((c .before .before .before .before .before .before .before .before .before .before .before .before .before .before .before .before .before .before .before .before .before .before) .pre .1 .1 .1 .1 .2) .2, behind-seen (contextOf (read ((c .before .before .before .before .before .before .before .before .before .before .before .before .before .before .before .before .before .before .before .before .before .before) .args .file .now))) ((c .before .before .before .before .before .before .before .before .before .before .before .before .before .before .before .before .before .before .before .before .before .before) .args .s) ((c .before .before .before .before .before .before .before .before .before .before .before .before .before .before .before .before .before .before .before .before .before .before) .pre .1 .1 .1 .0) ((c .before .before .before .before .before .before .before .before .before .before .before .before .before .before .before .before .before .before .before .before .before .before) .pre .1 .1 .1 .1 .2), row-looks-most (contextOf (read ((c .before .before .before .before .before .before .before .before .before .before .before .before .before .before .before .before .before .before .before .before .before .before) .args .file .now))) ((c .before .before .before .before .before .before .before .before .before .before .before .before .before .before .before .before .before .before .before .before .before .before) .args .s) All ((c .before .before .before .before .before .before .before .before .before .before .before .before .before .before .before .before .before .before .before .before .before .before) .pre .1 .1 .1 .0) (subst (SearchableRow ((c .before .before .before .before .before .before .before .before .before .before .before .before .before .before .before .before .before .before .before .before .before .before) .args .nodes .now) ((c .before .before .before .before .before .before .before .before .before .before .before .before .before .before .before .before .before .before .before .before .before .before) .args .w .next .0)) (sym (same-left (contextOf (read ((c .before .before .before .before .before .before .before .before .before .before .before .before .before .before .before .before .before .before .before .before .before .before) .args .file .now))) ((c .before .before .before .before .before .before .before .before .before .before .before .before .before .before .before .before .before .before .before .before .before .before) .args .s) ((c .before .before .before .before .before .before .before .before .before .before .before .before .before .before .before .before .before .before .before .before .before .before) .pre .1 .1 .1 .0) ((c .before .before .before .before .before .before .before .before .before .before .before .before .before .before .before .before .before .before .before .before .before .before) .pre .1 .1 .1 .1 .2) ((c .before .before .before .before .before .before .before .before .before .before .before .before .before .before .before .before .before .work-node) .result) ((c .before .before .before .before .before .before .before .before .before .before .before .before .before .before .before .before .before .work-node) .ensures) ((c .before .before .before .before .before .before .before .before .before .before .before .before .before .before .before .before .size) .result) ((c .before .before .before .before .before .before .before .before .before .before .before .before .before .before .before .before .size) .ensures .0))) (behind-row (contextOf (read ((c .before .before .before .before .before .before .before .before .before .before .before .before .before .before .before .before .before .before .before .before .before .before) .args .file .now))) ((c .before .before .before .before .before .before .before .before .before .before .before .before .before .before .before .before .before .before .before .before .before .before) .args .s) ((c .before .before .before .before .before .before .before .before .before .before .before .before .before .before .before .before .before .before .before .before .before .before) .pre .1 .1 .1 .0) ((c .before .before .before .before .before .before .before .before .before .before .before .before .before .before .before .before .before .before .before .before .before .before) .pre .1 .1 .1 .1 .2) .0)) ((c .before .before .before .walk-list) .ensures), (c .before .before .before .before .before .before .before .before .before .before .before .before .before .before .before .before .before .before .before .before .before .before) .good .1 .1 .0)
+behind-child-gathered-requires : (t : ℕ) → behind-child-lts.Need-gathered-requires (work-node-reads.Asked, work-node-reads.Learnt, link-plan-reads.Asked, link-plan-reads.Learnt, plan-behind-reads.Asked, plan-behind-reads.Learnt, is-passed-reads.Asked, is-passed-reads.Learnt, is-branches-reads.Asked, is-branches-reads.Learnt, walk-list-below t, walk-list.Post, either-reads.Asked, either-reads.Learnt, gathered-reads.Asked, gathered-reads.Learnt, of-answered-reads.Asked, of-answered-reads.Learnt, pass-row-reads.Asked, pass-row-reads.Learnt, stopped-reads.Asked, stopped-reads.Learnt, of-passed-reads.Asked, of-passed-reads.Learnt, next-plan-reads.Asked, next-plan-reads.Learnt) (behind-child-at t) behind-child.Post
+behind-child-gathered-requires t c κs = omega (arith, (c .either) .ensures .looks, behind-row (contextOf (read ((c .before .before .before .before .before .before .before .before .before .before .before .before .before .before .before .before .before) .args .file .now))) ((c .before .before .before .before .before .before .before .before .before .before .before .before .before .before .before .before .before) .args .s) ((c .before .before .before .before .before .before .before .before .before .before .before .before .before .before .before .before .before) .pre .1 .1 .1 .0) ((c .before .before .before .before .before .before .before .before .before .before .before .before .before .before .before .before .before) .pre .1 .1 .1 .1 .1) .2, behind-seen (contextOf (read ((c .before .before .before .before .before .before .before .before .before .before .before .before .before .before .before .before .before) .args .file .now))) ((c .before .before .before .before .before .before .before .before .before .before .before .before .before .before .before .before .before) .args .s) ((c .before .before .before .before .before .before .before .before .before .before .before .before .before .before .before .before .before) .pre .1 .1 .1 .0) ((c .before .before .before .before .before .before .before .before .before .before .before .before .before .before .before .before .before) .pre .1 .1 .1 .1 .1), row-looks-most (contextOf (read ((c .before .before .before .before .before .before .before .before .before .before .before .before .before .before .before .before .before) .args .file .now))) ((c .before .before .before .before .before .before .before .before .before .before .before .before .before .before .before .before .before) .args .s) All ((c .before .before .before .before .before .before .before .before .before .before .before .before .before .before .before .before .before) .pre .1 .1 .1 .0) (behind-row (contextOf (read ((c .before .before .before .before .before .before .before .before .before .before .before .before .before .before .before .before .before) .args .file .now))) ((c .before .before .before .before .before .before .before .before .before .before .before .before .before .before .before .before .before) .args .s) ((c .before .before .before .before .before .before .before .before .before .before .before .before .before .before .before .before .before) .pre .1 .1 .1 .0) ((c .before .before .before .before .before .before .before .before .before .before .before .before .before .before .before .before .before) .pre .1 .1 .1 .1 .1) .0) ((c .before .before .before .walk-list) .ensures), (c .before .before .before .before .before .before .before .before .before .before .before .before .before .before .before .before .before) .good .1 .1 .0)
 
-behind-child-of-answered-requires : (t : ℕ) → behind-child-lts.Need-of-answered-requires (work-node-reads.Asked, work-node-reads.Learnt, size-reads.Asked, size-reads.Learnt, link-plan-reads.Asked, link-plan-reads.Learnt, plan-behind-reads.Asked, plan-behind-reads.Learnt, is-passed-reads.Asked, is-passed-reads.Learnt, is-branches-reads.Asked, is-branches-reads.Learnt, walk-list-below t, walk-list.Post, either-reads.Asked, either-reads.Learnt, gathered-reads.Asked, gathered-reads.Learnt, of-answered-reads.Asked, of-answered-reads.Learnt, pass-row-reads.Asked, pass-row-reads.Learnt, stopped-reads.Asked, stopped-reads.Learnt, of-passed-reads.Asked, of-passed-reads.Learnt, next-plan-reads.Asked, next-plan-reads.Learnt) (behind-child-at t) behind-child.Post
-behind-child-of-answered-requires t c κs = let e : (c .before .gathered) .result .looks ≡ (c .before .before .before .before .before .before .before .before .before .before .before .before .before .before .before .before .before .before .before .before .before .before .before .before) .args .b .looks + (c .before .before .either) .result .looks = ap (λ x. x .looks) ((c .before .gathered) .ensures) in (omega (arith, behind-room (contextOf (read ((c .before .before .before .before .before .before .before .before .before .before .before .before .before .before .before .before .before .before .before .before .before .before .before .before) .args .file .now))) ((c .before .before .before .before .before .before .before .before .before .before .before .before .before .before .before .before .before .before .before .before .before .before .before .before) .args .s) ((c .before .before .before .before .before .before .before .before .before .before .before .before .before .before .before .before .before .before .before .before .before .before .before .before) .pre .1 .1 .1 .0) ((c .before .before .before .before .before .before .before .before .before .before .before .before .before .before .before .before .before .before .before .before .before .before .before .before) .pre .1 .1 .1 .1 .2), (c .before .before .before .before .before .walk-list) .kept .1 .1 .0), omega (arith, e, (c .before .before .either) .ensures .looks, behind-row (contextOf (read ((c .before .before .before .before .before .before .before .before .before .before .before .before .before .before .before .before .before .before .before .before .before .before .before .before) .args .file .now))) ((c .before .before .before .before .before .before .before .before .before .before .before .before .before .before .before .before .before .before .before .before .before .before .before .before) .args .s) ((c .before .before .before .before .before .before .before .before .before .before .before .before .before .before .before .before .before .before .before .before .before .before .before .before) .pre .1 .1 .1 .0) ((c .before .before .before .before .before .before .before .before .before .before .before .before .before .before .before .before .before .before .before .before .before .before .before .before) .pre .1 .1 .1 .1 .2) .2, behind-seen (contextOf (read ((c .before .before .before .before .before .before .before .before .before .before .before .before .before .before .before .before .before .before .before .before .before .before .before .before) .args .file .now))) ((c .before .before .before .before .before .before .before .before .before .before .before .before .before .before .before .before .before .before .before .before .before .before .before .before) .args .s) ((c .before .before .before .before .before .before .before .before .before .before .before .before .before .before .before .before .before .before .before .before .before .before .before .before) .pre .1 .1 .1 .0) ((c .before .before .before .before .before .before .before .before .before .before .before .before .before .before .before .before .before .before .before .before .before .before .before .before) .pre .1 .1 .1 .1 .2), row-looks-most (contextOf (read ((c .before .before .before .before .before .before .before .before .before .before .before .before .before .before .before .before .before .before .before .before .before .before .before .before) .args .file .now))) ((c .before .before .before .before .before .before .before .before .before .before .before .before .before .before .before .before .before .before .before .before .before .before .before .before) .args .s) All ((c .before .before .before .before .before .before .before .before .before .before .before .before .before .before .before .before .before .before .before .before .before .before .before .before) .pre .1 .1 .1 .0) (subst (SearchableRow ((c .before .before .before .before .before .before .before .before .before .before .before .before .before .before .before .before .before .before .before .before .before .before .before .before) .args .nodes .now) ((c .before .before .before .before .before .before .before .before .before .before .before .before .before .before .before .before .before .before .before .before .before .before .before .before) .args .w .next .0)) (sym (same-left (contextOf (read ((c .before .before .before .before .before .before .before .before .before .before .before .before .before .before .before .before .before .before .before .before .before .before .before .before) .args .file .now))) ((c .before .before .before .before .before .before .before .before .before .before .before .before .before .before .before .before .before .before .before .before .before .before .before .before) .args .s) ((c .before .before .before .before .before .before .before .before .before .before .before .before .before .before .before .before .before .before .before .before .before .before .before .before) .pre .1 .1 .1 .0) ((c .before .before .before .before .before .before .before .before .before .before .before .before .before .before .before .before .before .before .before .before .before .before .before .before) .pre .1 .1 .1 .1 .2) ((c .before .before .before .before .before .before .before .before .before .before .before .before .before .before .before .before .before .before .before .work-node) .result) ((c .before .before .before .before .before .before .before .before .before .before .before .before .before .before .before .before .before .before .before .work-node) .ensures) ((c .before .before .before .before .before .before .before .before .before .before .before .before .before .before .before .before .before .before .size) .result) ((c .before .before .before .before .before .before .before .before .before .before .before .before .before .before .before .before .before .before .size) .ensures .0))) (behind-row (contextOf (read ((c .before .before .before .before .before .before .before .before .before .before .before .before .before .before .before .before .before .before .before .before .before .before .before .before) .args .file .now))) ((c .before .before .before .before .before .before .before .before .before .before .before .before .before .before .before .before .before .before .before .before .before .before .before .before) .args .s) ((c .before .before .before .before .before .before .before .before .before .before .before .before .before .before .before .before .before .before .before .before .before .before .before .before) .pre .1 .1 .1 .0) ((c .before .before .before .before .before .before .before .before .before .before .before .before .before .before .before .before .before .before .before .before .before .before .before .before) .pre .1 .1 .1 .1 .2) .0)) ((c .before .before .before .before .before .walk-list) .ensures), (c .before .before .before .before .before .before .before .before .before .before .before .before .before .before .before .before .before .before .before .before .before .before .before .before) .good .1 .1 .0))
+behind-child-of-answered-requires : (t : ℕ) → behind-child-lts.Need-of-answered-requires (work-node-reads.Asked, work-node-reads.Learnt, link-plan-reads.Asked, link-plan-reads.Learnt, plan-behind-reads.Asked, plan-behind-reads.Learnt, is-passed-reads.Asked, is-passed-reads.Learnt, is-branches-reads.Asked, is-branches-reads.Learnt, walk-list-below t, walk-list.Post, either-reads.Asked, either-reads.Learnt, gathered-reads.Asked, gathered-reads.Learnt, of-answered-reads.Asked, of-answered-reads.Learnt, pass-row-reads.Asked, pass-row-reads.Learnt, stopped-reads.Asked, stopped-reads.Learnt, of-passed-reads.Asked, of-passed-reads.Learnt, next-plan-reads.Asked, next-plan-reads.Learnt) (behind-child-at t) behind-child.Post
+behind-child-of-answered-requires t c κs = let e : (c .before .gathered) .result .looks ≡ (c .before .before .before .before .before .before .before .before .before .before .before .before .before .before .before .before .before .before .before) .args .b .looks + (c .before .before .either) .result .looks = ap (λ x. x .looks) ((c .before .gathered) .ensures) in (omega (arith, behind-room (contextOf (read ((c .before .before .before .before .before .before .before .before .before .before .before .before .before .before .before .before .before .before .before) .args .file .now))) ((c .before .before .before .before .before .before .before .before .before .before .before .before .before .before .before .before .before .before .before) .args .s) ((c .before .before .before .before .before .before .before .before .before .before .before .before .before .before .before .before .before .before .before) .pre .1 .1 .1 .0) ((c .before .before .before .before .before .before .before .before .before .before .before .before .before .before .before .before .before .before .before) .pre .1 .1 .1 .1 .1), (c .before .before .before .before .before .walk-list) .kept .1 .1 .0), omega (arith, e, (c .before .before .either) .ensures .looks, behind-row (contextOf (read ((c .before .before .before .before .before .before .before .before .before .before .before .before .before .before .before .before .before .before .before) .args .file .now))) ((c .before .before .before .before .before .before .before .before .before .before .before .before .before .before .before .before .before .before .before) .args .s) ((c .before .before .before .before .before .before .before .before .before .before .before .before .before .before .before .before .before .before .before) .pre .1 .1 .1 .0) ((c .before .before .before .before .before .before .before .before .before .before .before .before .before .before .before .before .before .before .before) .pre .1 .1 .1 .1 .1) .2, behind-seen (contextOf (read ((c .before .before .before .before .before .before .before .before .before .before .before .before .before .before .before .before .before .before .before) .args .file .now))) ((c .before .before .before .before .before .before .before .before .before .before .before .before .before .before .before .before .before .before .before) .args .s) ((c .before .before .before .before .before .before .before .before .before .before .before .before .before .before .before .before .before .before .before) .pre .1 .1 .1 .0) ((c .before .before .before .before .before .before .before .before .before .before .before .before .before .before .before .before .before .before .before) .pre .1 .1 .1 .1 .1), row-looks-most (contextOf (read ((c .before .before .before .before .before .before .before .before .before .before .before .before .before .before .before .before .before .before .before) .args .file .now))) ((c .before .before .before .before .before .before .before .before .before .before .before .before .before .before .before .before .before .before .before) .args .s) All ((c .before .before .before .before .before .before .before .before .before .before .before .before .before .before .before .before .before .before .before) .pre .1 .1 .1 .0) (behind-row (contextOf (read ((c .before .before .before .before .before .before .before .before .before .before .before .before .before .before .before .before .before .before .before) .args .file .now))) ((c .before .before .before .before .before .before .before .before .before .before .before .before .before .before .before .before .before .before .before) .args .s) ((c .before .before .before .before .before .before .before .before .before .before .before .before .before .before .before .before .before .before .before) .pre .1 .1 .1 .0) ((c .before .before .before .before .before .before .before .before .before .before .before .before .before .before .before .before .before .before .before) .pre .1 .1 .1 .1 .1) .0) ((c .before .before .before .before .before .walk-list) .ensures), (c .before .before .before .before .before .before .before .before .before .before .before .before .before .before .before .before .before .before .before) .good .1 .1 .0))
 
-behind-child-same-length : (t : ℕ) → behind-child-lts.Need-same-length (work-node-reads.Asked, work-node-reads.Learnt, size-reads.Asked, size-reads.Learnt, link-plan-reads.Asked, link-plan-reads.Learnt, plan-behind-reads.Asked, plan-behind-reads.Learnt, is-passed-reads.Asked, is-passed-reads.Learnt, is-branches-reads.Asked, is-branches-reads.Learnt, walk-list-below t, walk-list.Post, either-reads.Asked, either-reads.Learnt, gathered-reads.Asked, gathered-reads.Learnt, of-answered-reads.Asked, of-answered-reads.Learnt, pass-row-reads.Asked, pass-row-reads.Learnt, stopped-reads.Asked, stopped-reads.Learnt, of-passed-reads.Asked, of-passed-reads.Learnt, next-plan-reads.Asked, next-plan-reads.Learnt) (behind-child-at t) behind-child.Post
+behind-child-same-length : (t : ℕ) → behind-child-lts.Need-same-length (work-node-reads.Asked, work-node-reads.Learnt, link-plan-reads.Asked, link-plan-reads.Learnt, plan-behind-reads.Asked, plan-behind-reads.Learnt, is-passed-reads.Asked, is-passed-reads.Learnt, is-branches-reads.Asked, is-branches-reads.Learnt, walk-list-below t, walk-list.Post, either-reads.Asked, either-reads.Learnt, gathered-reads.Asked, gathered-reads.Learnt, of-answered-reads.Asked, of-answered-reads.Learnt, pass-row-reads.Asked, pass-row-reads.Learnt, stopped-reads.Asked, stopped-reads.Learnt, of-passed-reads.Asked, of-passed-reads.Learnt, next-plan-reads.Asked, next-plan-reads.Learnt) (behind-child-at t) behind-child.Post
 behind-child-same-length t c = search needs
 
-behind-child-returns : (t : ℕ) → behind-child-lts.Need-returns (work-node-reads.Asked, work-node-reads.Learnt, size-reads.Asked, size-reads.Learnt, link-plan-reads.Asked, link-plan-reads.Learnt, plan-behind-reads.Asked, plan-behind-reads.Learnt, is-passed-reads.Asked, is-passed-reads.Learnt, is-branches-reads.Asked, is-branches-reads.Learnt, walk-list-below t, walk-list.Post, either-reads.Asked, either-reads.Learnt, gathered-reads.Asked, gathered-reads.Learnt, of-answered-reads.Asked, of-answered-reads.Learnt, pass-row-reads.Asked, pass-row-reads.Learnt, stopped-reads.Asked, stopped-reads.Learnt, of-passed-reads.Asked, of-passed-reads.Learnt, next-plan-reads.Asked, next-plan-reads.Learnt) (behind-child-at t) behind-child.Post
-behind-child-returns t c = λ table₀ left g. child-behind (contextOf (read ((c .before .before .before .before .before .before .before .before .before .before .before .before .before .before .before .before .before .before .before .before .before .before .before .before .before .before .before) .args .file .now))) ((c .before .before .before .before .before .before .before .before .before .before .before .before .before .before .before .before .before .before .before .before .before .before .before .before .before .before .before) .args .s) ((c .before .before .before .before .before .before .before .before .before .before .before .before .before .before .before .before .before .before .before .before .before .before .before .before .before .before .before) .pre .1 .1 .1 .0) g ((c .before .before .before .before .before .before .before .before .before .before .before .before .before .before .before .before .before .before .before .before .before .before .work-node) .result) ((c .before .before .before .before .before .before .before .before .before .before .before .before .before .before .before .before .before .before .before .before .before .before .work-node) .ensures) (row-branches (contextOf (read ((c .before .before .before .before .before .before .before .before .before .before .before .before .before .before .before .before .before .before .before .before .before .before .before .before .before .before .before) .args .file .now))) ((c .before .before .before .before .before .before .before .before .before .before .before .before .before .before .before .before .before .before .before .before .before .before .before .before .before .before .before) .args .s) ((c .before .before .before .before .before .before .before .before .before .before .before .before .before .before .before .before .before .before .before .before .before .before .before .before .before .before .before) .pre .1 .1 .1 .0) g ((c .before .before .before .before .before .before .before .before .before .before .before .before .before .before .before .plan-behind) .result) ((c .before .before .before .before .before .before .before .before .before .before .before .before .before .before .before .plan-behind) .ensures ∙ ap (λ p. planBehind p ((c .before .before .before .before .before .before .before .before .before .before .before .before .before .before .before .before .before .before .before .before .before .before .before .before .before .before .before) .args .child .0 - (c .before .before .before .before .before .before .before .before .before .before .before .before .before .before .before .before .before .before .before .before .before .before .before .before .before .before .before) .args .b .link .0 - 1)) ((c .before .before .before .before .before .before .before .before .before .before .before .before .before .before .before .before .before .before .link-plan) .ensures) ∙ plan-was (contextOf (read ((c .before .before .before .before .before .before .before .before .before .before .before .before .before .before .before .before .before .before .before .before .before .before .before .before .before .before .before) .args .file .now))) ((c .before .before .before .before .before .before .before .before .before .before .before .before .before .before .before .before .before .before .before .before .before .before .before .before .before .before .before) .args .s) ((c .before .before .before .before .before .before .before .before .before .before .before .before .before .before .before .before .before .before .before .before .before .before .before .before .before .before .before) .pre .1 .1 .1 .0) g ((c .before .before .before .before .before .before .before .before .before .before .before .before .before .before .before .before .before .before .before .before .before .before .work-node) .result) ((c .before .before .before .before .before .before .before .before .before .before .before .before .before .before .before .before .before .before .before .before .before .before .work-node) .ensures)) ((c .before .before .before .before .before .before .before .before .before .before .before .before .before .before .before .before .before .before .before .before .before .size) .result + (c .before .before .before .before .before .before .before .before .before .before .before .before .before .before .before .before .before .before .before .before .before .before .before .before .before .before .before) .args .b .link .0 - (c .before .before .before .before .before .before .before .before .before .before .before .before .before .before .before .before .before .before .before .before .before .before .before .before .before .before .before) .args .child .0) (same-left (contextOf (read ((c .before .before .before .before .before .before .before .before .before .before .before .before .before .before .before .before .before .before .before .before .before .before .before .before .before .before .before) .args .file .now))) ((c .before .before .before .before .before .before .before .before .before .before .before .before .before .before .before .before .before .before .before .before .before .before .before .before .before .before .before) .args .s) ((c .before .before .before .before .before .before .before .before .before .before .before .before .before .before .before .before .before .before .before .before .before .before .before .before .before .before .before) .pre .1 .1 .1 .0) g ((c .before .before .before .before .before .before .before .before .before .before .before .before .before .before .before .before .before .before .before .before .before .before .work-node) .result) ((c .before .before .before .before .before .before .before .before .before .before .before .before .before .before .before .before .before .before .before .before .before .before .work-node) .ensures) ((c .before .before .before .before .before .before .before .before .before .before .before .before .before .before .before .before .before .before .before .before .before .size) .result) ((c .before .before .before .before .before .before .before .before .before .before .before .before .before .before .before .before .before .before .before .before .before .size) .ensures .0)) (sym ((c .before .before .before .before .before .before .before .before .before .before .before .before .before .is-passed) .ensures) ∙ not-true ((c .before .before .before .before .before .before .before .before .before .before .before .before .before .is-passed) .result) ((c .before .before .before .before .before .before .before .before .before .before .before .before .if1) .taken)) (sym ((c .before .before .before .before .before .before .before .before .before .before .before .is-branches) .ensures) ∙ (c .before .before .before .before .before .before .before .before .before .before .if2) .taken) ((c .before .before .before .before .before .before .before .before .walk-list) .ensures) ((c .before .before .before .before .before .either) .ensures) ((c .before .before .before .before .gathered) .ensures)) ((c .before .before .of-answered) .ensures .0 (ap (λ x. isPassed (x .answer)) ((c .before .before .before .before .gathered) .ensures) ∙ either-open ((c .before .before .before .before .before .before .before .before .before .before .before .before .before .before .before .before .before .before .before .before .before .before .before .before .before .before .before) .args .w) ((c .before .before .before .before .before .before .before .before .walk-list) .result) ((c .before .before .before .before .before .either) .result) ((c .before .before .before .before .before .either) .ensures)) (contextOf (read ((c .before .before .before .before .before .before .before .before .before .before .before .before .before .before .before .before .before .before .before .before .before .before .before .before .before .before .before) .args .file .now))) false ((c .before .before .before .before .before .before .before .before .before .before .before .before .before .before .before .before .before .before .before .before .before .before .before .before .before .before .before) .args .s))
+behind-child-returns : (t : ℕ) → behind-child-lts.Need-returns (work-node-reads.Asked, work-node-reads.Learnt, link-plan-reads.Asked, link-plan-reads.Learnt, plan-behind-reads.Asked, plan-behind-reads.Learnt, is-passed-reads.Asked, is-passed-reads.Learnt, is-branches-reads.Asked, is-branches-reads.Learnt, walk-list-below t, walk-list.Post, either-reads.Asked, either-reads.Learnt, gathered-reads.Asked, gathered-reads.Learnt, of-answered-reads.Asked, of-answered-reads.Learnt, pass-row-reads.Asked, pass-row-reads.Learnt, stopped-reads.Asked, stopped-reads.Learnt, of-passed-reads.Asked, of-passed-reads.Learnt, next-plan-reads.Asked, next-plan-reads.Learnt) (behind-child-at t) behind-child.Post
+behind-child-returns t c = λ table₀ g. child-behind (contextOf (read ((c .before .before .before .before .before .before .before .before .before .before .before .before .before .before .before .before .before .before .before .before .before .before) .args .file .now))) ((c .before .before .before .before .before .before .before .before .before .before .before .before .before .before .before .before .before .before .before .before .before .before) .args .s) ((c .before .before .before .before .before .before .before .before .before .before .before .before .before .before .before .before .before .before .before .before .before .before) .pre .1 .1 .1 .0) g ((c .before .before .before .before .before .before .before .before .before .before .before .before .before .before .before .before .before .work-node) .result) ((c .before .before .before .before .before .before .before .before .before .before .before .before .before .before .before .before .before .work-node) .ensures) (row-branches (contextOf (read ((c .before .before .before .before .before .before .before .before .before .before .before .before .before .before .before .before .before .before .before .before .before .before) .args .file .now))) ((c .before .before .before .before .before .before .before .before .before .before .before .before .before .before .before .before .before .before .before .before .before .before) .args .s) ((c .before .before .before .before .before .before .before .before .before .before .before .before .before .before .before .before .before .before .before .before .before .before) .pre .1 .1 .1 .0) g ((c .before .before .before .before .before .before .before .before .before .before .before .before .before .before .before .plan-behind) .result) ((c .before .before .before .before .before .before .before .before .before .before .before .before .before .before .before .plan-behind) .ensures ∙ ap (λ p. planBehind p ((c .before .before .before .before .before .before .before .before .before .before .before .before .before .before .before .before .before .before .before .before .before .before) .args .b .before)) ((c .before .before .before .before .before .before .before .before .before .before .before .before .before .before .before .before .link-plan) .ensures) ∙ plan-was (contextOf (read ((c .before .before .before .before .before .before .before .before .before .before .before .before .before .before .before .before .before .before .before .before .before .before) .args .file .now))) ((c .before .before .before .before .before .before .before .before .before .before .before .before .before .before .before .before .before .before .before .before .before .before) .args .s) ((c .before .before .before .before .before .before .before .before .before .before .before .before .before .before .before .before .before .before .before .before .before .before) .pre .1 .1 .1 .0) g ((c .before .before .before .before .before .before .before .before .before .before .before .before .before .before .before .before .before .work-node) .result) ((c .before .before .before .before .before .before .before .before .before .before .before .before .before .before .before .before .before .work-node) .ensures)) (sym ((c .before .before .before .before .before .before .before .before .before .before .before .before .before .is-passed) .ensures) ∙ not-true ((c .before .before .before .before .before .before .before .before .before .before .before .before .before .is-passed) .result) ((c .before .before .before .before .before .before .before .before .before .before .before .before .if1) .taken)) (sym ((c .before .before .before .before .before .before .before .before .before .before .before .is-branches) .ensures) ∙ (c .before .before .before .before .before .before .before .before .before .before .if2) .taken) ((c .before .before .before .before .before .before .before .before .walk-list) .ensures) ((c .before .before .before .before .before .either) .ensures) ((c .before .before .before .before .gathered) .ensures)) ((c .before .before .of-answered) .ensures .0 (ap (λ x. isPassed (x .answer)) ((c .before .before .before .before .gathered) .ensures) ∙ either-open ((c .before .before .before .before .before .before .before .before .before .before .before .before .before .before .before .before .before .before .before .before .before .before) .args .w) ((c .before .before .before .before .before .before .before .before .walk-list) .result) ((c .before .before .before .before .before .either) .result) ((c .before .before .before .before .before .either) .ensures)) (contextOf (read ((c .before .before .before .before .before .before .before .before .before .before .before .before .before .before .before .before .before .before .before .before .before .before) .args .file .now))) false ((c .before .before .before .before .before .before .before .before .before .before .before .before .before .before .before .before .before .before .before .before .before .before) .args .s))
 
-behind-child-pass-row-requires : (t : ℕ) → behind-child-lts.Need-pass-row-requires (work-node-reads.Asked, work-node-reads.Learnt, size-reads.Asked, size-reads.Learnt, link-plan-reads.Asked, link-plan-reads.Learnt, plan-behind-reads.Asked, plan-behind-reads.Learnt, is-passed-reads.Asked, is-passed-reads.Learnt, is-branches-reads.Asked, is-branches-reads.Learnt, walk-list-below t, walk-list.Post, either-reads.Asked, either-reads.Learnt, gathered-reads.Asked, gathered-reads.Learnt, of-answered-reads.Asked, of-answered-reads.Learnt, pass-row-reads.Asked, pass-row-reads.Learnt, stopped-reads.Asked, stopped-reads.Learnt, of-passed-reads.Asked, of-passed-reads.Learnt, next-plan-reads.Asked, next-plan-reads.Learnt) (behind-child-at t) behind-child.Post
-behind-child-pass-row-requires t c κs = row-stands (subst (SearchableRow ((c .before .before .before .before .before .before .before .before .before .before .before .before .before .before .before .before .before .before) .args .nodes .now) ((c .before .before .before .before .before .before .before .before .before .before .before .before .before .before .before .before .before .before) .args .w .next .0)) (sym (same-left (contextOf (read ((c .before .before .before .before .before .before .before .before .before .before .before .before .before .before .before .before .before .before) .args .file .now))) ((c .before .before .before .before .before .before .before .before .before .before .before .before .before .before .before .before .before .before) .args .s) ((c .before .before .before .before .before .before .before .before .before .before .before .before .before .before .before .before .before .before) .pre .1 .1 .1 .0) ((c .before .before .before .before .before .before .before .before .before .before .before .before .before .before .before .before .before .before) .pre .1 .1 .1 .1 .2) ((c .before .before .before .before .before .before .before .before .before .before .before .before .before .work-node) .result) ((c .before .before .before .before .before .before .before .before .before .before .before .before .before .work-node) .ensures) ((c .before .before .before .before .before .before .before .before .before .before .before .before .size) .result) ((c .before .before .before .before .before .before .before .before .before .before .before .before .size) .ensures .0))) (behind-row (contextOf (read ((c .before .before .before .before .before .before .before .before .before .before .before .before .before .before .before .before .before .before) .args .file .now))) ((c .before .before .before .before .before .before .before .before .before .before .before .before .before .before .before .before .before .before) .args .s) ((c .before .before .before .before .before .before .before .before .before .before .before .before .before .before .before .before .before .before) .pre .1 .1 .1 .0) ((c .before .before .before .before .before .before .before .before .before .before .before .before .before .before .before .before .before .before) .pre .1 .1 .1 .1 .2) .0))
+behind-child-pass-row-requires : (t : ℕ) → behind-child-lts.Need-pass-row-requires (work-node-reads.Asked, work-node-reads.Learnt, link-plan-reads.Asked, link-plan-reads.Learnt, plan-behind-reads.Asked, plan-behind-reads.Learnt, is-passed-reads.Asked, is-passed-reads.Learnt, is-branches-reads.Asked, is-branches-reads.Learnt, walk-list-below t, walk-list.Post, either-reads.Asked, either-reads.Learnt, gathered-reads.Asked, gathered-reads.Learnt, of-answered-reads.Asked, of-answered-reads.Learnt, pass-row-reads.Asked, pass-row-reads.Learnt, stopped-reads.Asked, stopped-reads.Learnt, of-passed-reads.Asked, of-passed-reads.Learnt, next-plan-reads.Asked, next-plan-reads.Learnt) (behind-child-at t) behind-child.Post
+behind-child-pass-row-requires t c κs = row-stands (behind-row (contextOf (read ((c .before .before .before .before .before .before .before .before .before .before .before .before .before) .args .file .now))) ((c .before .before .before .before .before .before .before .before .before .before .before .before .before) .args .s) ((c .before .before .before .before .before .before .before .before .before .before .before .before .before) .pre .1 .1 .1 .0) ((c .before .before .before .before .before .before .before .before .before .before .before .before .before) .pre .1 .1 .1 .1 .1) .0)
 
-behind-child-stopped-requires : (t : ℕ) → behind-child-lts.Need-stopped-requires (work-node-reads.Asked, work-node-reads.Learnt, size-reads.Asked, size-reads.Learnt, link-plan-reads.Asked, link-plan-reads.Learnt, plan-behind-reads.Asked, plan-behind-reads.Learnt, is-passed-reads.Asked, is-passed-reads.Learnt, is-branches-reads.Asked, is-branches-reads.Learnt, walk-list-below t, walk-list.Post, either-reads.Asked, either-reads.Learnt, gathered-reads.Asked, gathered-reads.Learnt, of-answered-reads.Asked, of-answered-reads.Learnt, pass-row-reads.Asked, pass-row-reads.Learnt, stopped-reads.Asked, stopped-reads.Learnt, of-passed-reads.Asked, of-passed-reads.Learnt, next-plan-reads.Asked, next-plan-reads.Learnt) (behind-child-at t) behind-child.Post
+behind-child-stopped-requires : (t : ℕ) → behind-child-lts.Need-stopped-requires (work-node-reads.Asked, work-node-reads.Learnt, link-plan-reads.Asked, link-plan-reads.Learnt, plan-behind-reads.Asked, plan-behind-reads.Learnt, is-passed-reads.Asked, is-passed-reads.Learnt, is-branches-reads.Asked, is-branches-reads.Learnt, walk-list-below t, walk-list.Post, either-reads.Asked, either-reads.Learnt, gathered-reads.Asked, gathered-reads.Learnt, of-answered-reads.Asked, of-answered-reads.Learnt, pass-row-reads.Asked, pass-row-reads.Learnt, stopped-reads.Asked, stopped-reads.Learnt, of-passed-reads.Asked, of-passed-reads.Learnt, next-plan-reads.Asked, next-plan-reads.Learnt) (behind-child-at t) behind-child.Post
 behind-child-stopped-requires t c κs = tt
 
-behind-child-gathered-requires-2 : (t : ℕ) → behind-child-lts.Need-gathered-requires-2 (work-node-reads.Asked, work-node-reads.Learnt, size-reads.Asked, size-reads.Learnt, link-plan-reads.Asked, link-plan-reads.Learnt, plan-behind-reads.Asked, plan-behind-reads.Learnt, is-passed-reads.Asked, is-passed-reads.Learnt, is-branches-reads.Asked, is-branches-reads.Learnt, walk-list-below t, walk-list.Post, either-reads.Asked, either-reads.Learnt, gathered-reads.Asked, gathered-reads.Learnt, of-answered-reads.Asked, of-answered-reads.Learnt, pass-row-reads.Asked, pass-row-reads.Learnt, stopped-reads.Asked, stopped-reads.Learnt, of-passed-reads.Asked, of-passed-reads.Learnt, next-plan-reads.Asked, next-plan-reads.Learnt) (behind-child-at t) behind-child.Post
-behind-child-gathered-requires-2 t c κs = let e : (c .stopped) .result .looks ≡ (c .before .before .before .before .before .before .before .before .before .before .before .before .before .before .before .before .before .before .before .before .before) .args .w .looks = ap (λ x. x .looks) ((c .stopped) .ensures) in omega (arith, e, behind-room (contextOf (read ((c .before .before .before .before .before .before .before .before .before .before .before .before .before .before .before .before .before .before .before .before .before) .args .file .now))) ((c .before .before .before .before .before .before .before .before .before .before .before .before .before .before .before .before .before .before .before .before .before) .args .s) ((c .before .before .before .before .before .before .before .before .before .before .before .before .before .before .before .before .before .before .before .before .before) .pre .1 .1 .1 .0) ((c .before .before .before .before .before .before .before .before .before .before .before .before .before .before .before .before .before .before .before .before .before) .pre .1 .1 .1 .1 .2), behind-seen (contextOf (read ((c .before .before .before .before .before .before .before .before .before .before .before .before .before .before .before .before .before .before .before .before .before) .args .file .now))) ((c .before .before .before .before .before .before .before .before .before .before .before .before .before .before .before .before .before .before .before .before .before) .args .s) ((c .before .before .before .before .before .before .before .before .before .before .before .before .before .before .before .before .before .before .before .before .before) .pre .1 .1 .1 .0) ((c .before .before .before .before .before .before .before .before .before .before .before .before .before .before .before .before .before .before .before .before .before) .pre .1 .1 .1 .1 .2), behind-looks (contextOf (read ((c .before .before .before .before .before .before .before .before .before .before .before .before .before .before .before .before .before .before .before .before .before) .args .file .now))) ((c .before .before .before .before .before .before .before .before .before .before .before .before .before .before .before .before .before .before .before .before .before) .args .s) ((c .before .before .before .before .before .before .before .before .before .before .before .before .before .before .before .before .before .before .before .before .before) .pre .1 .1 .1 .0) ((c .before .before .before .before .before .before .before .before .before .before .before .before .before .before .before .before .before .before .before .before .before) .pre .1 .1 .1 .1 .2), (c .before .before .before .before .before .before .before .before .before .before .before .before .before .before .before .before .before .before .before .before .before) .good .1 .1 .0)
+behind-child-gathered-requires-2 : (t : ℕ) → behind-child-lts.Need-gathered-requires-2 (work-node-reads.Asked, work-node-reads.Learnt, link-plan-reads.Asked, link-plan-reads.Learnt, plan-behind-reads.Asked, plan-behind-reads.Learnt, is-passed-reads.Asked, is-passed-reads.Learnt, is-branches-reads.Asked, is-branches-reads.Learnt, walk-list-below t, walk-list.Post, either-reads.Asked, either-reads.Learnt, gathered-reads.Asked, gathered-reads.Learnt, of-answered-reads.Asked, of-answered-reads.Learnt, pass-row-reads.Asked, pass-row-reads.Learnt, stopped-reads.Asked, stopped-reads.Learnt, of-passed-reads.Asked, of-passed-reads.Learnt, next-plan-reads.Asked, next-plan-reads.Learnt) (behind-child-at t) behind-child.Post
+behind-child-gathered-requires-2 t c κs = let e : (c .stopped) .result .looks ≡ (c .before .before .before .before .before .before .before .before .before .before .before .before .before .before .before .before) .args .w .looks = ap (λ x. x .looks) ((c .stopped) .ensures) in omega (arith, e, behind-room (contextOf (read ((c .before .before .before .before .before .before .before .before .before .before .before .before .before .before .before .before) .args .file .now))) ((c .before .before .before .before .before .before .before .before .before .before .before .before .before .before .before .before) .args .s) ((c .before .before .before .before .before .before .before .before .before .before .before .before .before .before .before .before) .pre .1 .1 .1 .0) ((c .before .before .before .before .before .before .before .before .before .before .before .before .before .before .before .before) .pre .1 .1 .1 .1 .1), behind-seen (contextOf (read ((c .before .before .before .before .before .before .before .before .before .before .before .before .before .before .before .before) .args .file .now))) ((c .before .before .before .before .before .before .before .before .before .before .before .before .before .before .before .before) .args .s) ((c .before .before .before .before .before .before .before .before .before .before .before .before .before .before .before .before) .pre .1 .1 .1 .0) ((c .before .before .before .before .before .before .before .before .before .before .before .before .before .before .before .before) .pre .1 .1 .1 .1 .1), behind-looks (contextOf (read ((c .before .before .before .before .before .before .before .before .before .before .before .before .before .before .before .before) .args .file .now))) ((c .before .before .before .before .before .before .before .before .before .before .before .before .before .before .before .before) .args .s) ((c .before .before .before .before .before .before .before .before .before .before .before .before .before .before .before .before) .pre .1 .1 .1 .0) ((c .before .before .before .before .before .before .before .before .before .before .before .before .before .before .before .before) .pre .1 .1 .1 .1 .1), (c .before .before .before .before .before .before .before .before .before .before .before .before .before .before .before .before) .good .1 .1 .0)
 
-behind-child-of-answered-requires-2 : (t : ℕ) → behind-child-lts.Need-of-answered-requires-2 (work-node-reads.Asked, work-node-reads.Learnt, size-reads.Asked, size-reads.Learnt, link-plan-reads.Asked, link-plan-reads.Learnt, plan-behind-reads.Asked, plan-behind-reads.Learnt, is-passed-reads.Asked, is-passed-reads.Learnt, is-branches-reads.Asked, is-branches-reads.Learnt, walk-list-below t, walk-list.Post, either-reads.Asked, either-reads.Learnt, gathered-reads.Asked, gathered-reads.Learnt, of-answered-reads.Asked, of-answered-reads.Learnt, pass-row-reads.Asked, pass-row-reads.Learnt, stopped-reads.Asked, stopped-reads.Learnt, of-passed-reads.Asked, of-passed-reads.Learnt, next-plan-reads.Asked, next-plan-reads.Learnt) (behind-child-at t) behind-child.Post
-behind-child-of-answered-requires-2 t c κs = let e : (c .before .before .stopped) .result .looks ≡ (c .before .before .before .before .before .before .before .before .before .before .before .before .before .before .before .before .before .before .before .before .before .before .before) .args .w .looks = ap (λ x. x .looks) ((c .before .before .stopped) .ensures) in let f : (c .before .gathered2) .result .looks ≡ (c .before .before .before .before .before .before .before .before .before .before .before .before .before .before .before .before .before .before .before .before .before .before .before) .args .b .looks + (c .before .before .stopped) .result .looks = ap (λ x. x .looks) ((c .before .gathered2) .ensures) in (behind-room (contextOf (read ((c .before .before .before .before .before .before .before .before .before .before .before .before .before .before .before .before .before .before .before .before .before .before .before) .args .file .now))) ((c .before .before .before .before .before .before .before .before .before .before .before .before .before .before .before .before .before .before .before .before .before .before .before) .args .s) ((c .before .before .before .before .before .before .before .before .before .before .before .before .before .before .before .before .before .before .before .before .before .before .before) .pre .1 .1 .1 .0) ((c .before .before .before .before .before .before .before .before .before .before .before .before .before .before .before .before .before .before .before .before .before .before .before) .pre .1 .1 .1 .1 .2), omega (arith, e, f, behind-room (contextOf (read ((c .before .before .before .before .before .before .before .before .before .before .before .before .before .before .before .before .before .before .before .before .before .before .before) .args .file .now))) ((c .before .before .before .before .before .before .before .before .before .before .before .before .before .before .before .before .before .before .before .before .before .before .before) .args .s) ((c .before .before .before .before .before .before .before .before .before .before .before .before .before .before .before .before .before .before .before .before .before .before .before) .pre .1 .1 .1 .0) ((c .before .before .before .before .before .before .before .before .before .before .before .before .before .before .before .before .before .before .before .before .before .before .before) .pre .1 .1 .1 .1 .2), behind-seen (contextOf (read ((c .before .before .before .before .before .before .before .before .before .before .before .before .before .before .before .before .before .before .before .before .before .before .before) .args .file .now))) ((c .before .before .before .before .before .before .before .before .before .before .before .before .before .before .before .before .before .before .before .before .before .before .before) .args .s) ((c .before .before .before .before .before .before .before .before .before .before .before .before .before .before .before .before .before .before .before .before .before .before .before) .pre .1 .1 .1 .0) ((c .before .before .before .before .before .before .before .before .before .before .before .before .before .before .before .before .before .before .before .before .before .before .before) .pre .1 .1 .1 .1 .2), behind-looks (contextOf (read ((c .before .before .before .before .before .before .before .before .before .before .before .before .before .before .before .before .before .before .before .before .before .before .before) .args .file .now))) ((c .before .before .before .before .before .before .before .before .before .before .before .before .before .before .before .before .before .before .before .before .before .before .before) .args .s) ((c .before .before .before .before .before .before .before .before .before .before .before .before .before .before .before .before .before .before .before .before .before .before .before) .pre .1 .1 .1 .0) ((c .before .before .before .before .before .before .before .before .before .before .before .before .before .before .before .before .before .before .before .before .before .before .before) .pre .1 .1 .1 .1 .2), (c .before .before .before .before .before .before .before .before .before .before .before .before .before .before .before .before .before .before .before .before .before .before .before) .good .1 .1 .0))
+behind-child-of-answered-requires-2 : (t : ℕ) → behind-child-lts.Need-of-answered-requires-2 (work-node-reads.Asked, work-node-reads.Learnt, link-plan-reads.Asked, link-plan-reads.Learnt, plan-behind-reads.Asked, plan-behind-reads.Learnt, is-passed-reads.Asked, is-passed-reads.Learnt, is-branches-reads.Asked, is-branches-reads.Learnt, walk-list-below t, walk-list.Post, either-reads.Asked, either-reads.Learnt, gathered-reads.Asked, gathered-reads.Learnt, of-answered-reads.Asked, of-answered-reads.Learnt, pass-row-reads.Asked, pass-row-reads.Learnt, stopped-reads.Asked, stopped-reads.Learnt, of-passed-reads.Asked, of-passed-reads.Learnt, next-plan-reads.Asked, next-plan-reads.Learnt) (behind-child-at t) behind-child.Post
+behind-child-of-answered-requires-2 t c κs = let e : (c .before .before .stopped) .result .looks ≡ (c .before .before .before .before .before .before .before .before .before .before .before .before .before .before .before .before .before .before) .args .w .looks = ap (λ x. x .looks) ((c .before .before .stopped) .ensures) in let f : (c .before .gathered2) .result .looks ≡ (c .before .before .before .before .before .before .before .before .before .before .before .before .before .before .before .before .before .before) .args .b .looks + (c .before .before .stopped) .result .looks = ap (λ x. x .looks) ((c .before .gathered2) .ensures) in (behind-room (contextOf (read ((c .before .before .before .before .before .before .before .before .before .before .before .before .before .before .before .before .before .before) .args .file .now))) ((c .before .before .before .before .before .before .before .before .before .before .before .before .before .before .before .before .before .before) .args .s) ((c .before .before .before .before .before .before .before .before .before .before .before .before .before .before .before .before .before .before) .pre .1 .1 .1 .0) ((c .before .before .before .before .before .before .before .before .before .before .before .before .before .before .before .before .before .before) .pre .1 .1 .1 .1 .1), omega (arith, e, f, behind-room (contextOf (read ((c .before .before .before .before .before .before .before .before .before .before .before .before .before .before .before .before .before .before) .args .file .now))) ((c .before .before .before .before .before .before .before .before .before .before .before .before .before .before .before .before .before .before) .args .s) ((c .before .before .before .before .before .before .before .before .before .before .before .before .before .before .before .before .before .before) .pre .1 .1 .1 .0) ((c .before .before .before .before .before .before .before .before .before .before .before .before .before .before .before .before .before .before) .pre .1 .1 .1 .1 .1), behind-seen (contextOf (read ((c .before .before .before .before .before .before .before .before .before .before .before .before .before .before .before .before .before .before) .args .file .now))) ((c .before .before .before .before .before .before .before .before .before .before .before .before .before .before .before .before .before .before) .args .s) ((c .before .before .before .before .before .before .before .before .before .before .before .before .before .before .before .before .before .before) .pre .1 .1 .1 .0) ((c .before .before .before .before .before .before .before .before .before .before .before .before .before .before .before .before .before .before) .pre .1 .1 .1 .1 .1), behind-looks (contextOf (read ((c .before .before .before .before .before .before .before .before .before .before .before .before .before .before .before .before .before .before) .args .file .now))) ((c .before .before .before .before .before .before .before .before .before .before .before .before .before .before .before .before .before .before) .args .s) ((c .before .before .before .before .before .before .before .before .before .before .before .before .before .before .before .before .before .before) .pre .1 .1 .1 .0) ((c .before .before .before .before .before .before .before .before .before .before .before .before .before .before .before .before .before .before) .pre .1 .1 .1 .1 .1), (c .before .before .before .before .before .before .before .before .before .before .before .before .before .before .before .before .before .before) .good .1 .1 .0))
 
-behind-child-same-length-2 : (t : ℕ) → behind-child-lts.Need-same-length-2 (work-node-reads.Asked, work-node-reads.Learnt, size-reads.Asked, size-reads.Learnt, link-plan-reads.Asked, link-plan-reads.Learnt, plan-behind-reads.Asked, plan-behind-reads.Learnt, is-passed-reads.Asked, is-passed-reads.Learnt, is-branches-reads.Asked, is-branches-reads.Learnt, walk-list-below t, walk-list.Post, either-reads.Asked, either-reads.Learnt, gathered-reads.Asked, gathered-reads.Learnt, of-answered-reads.Asked, of-answered-reads.Learnt, pass-row-reads.Asked, pass-row-reads.Learnt, stopped-reads.Asked, stopped-reads.Learnt, of-passed-reads.Asked, of-passed-reads.Learnt, next-plan-reads.Asked, next-plan-reads.Learnt) (behind-child-at t) behind-child.Post
+behind-child-same-length-2 : (t : ℕ) → behind-child-lts.Need-same-length-2 (work-node-reads.Asked, work-node-reads.Learnt, link-plan-reads.Asked, link-plan-reads.Learnt, plan-behind-reads.Asked, plan-behind-reads.Learnt, is-passed-reads.Asked, is-passed-reads.Learnt, is-branches-reads.Asked, is-branches-reads.Learnt, walk-list-below t, walk-list.Post, either-reads.Asked, either-reads.Learnt, gathered-reads.Asked, gathered-reads.Learnt, of-answered-reads.Asked, of-answered-reads.Learnt, pass-row-reads.Asked, pass-row-reads.Learnt, stopped-reads.Asked, stopped-reads.Learnt, of-passed-reads.Asked, of-passed-reads.Learnt, next-plan-reads.Asked, next-plan-reads.Learnt) (behind-child-at t) behind-child.Post
 behind-child-same-length-2 t c = search needs
 
-behind-child-returns-2 : (t : ℕ) → behind-child-lts.Need-returns-2 (work-node-reads.Asked, work-node-reads.Learnt, size-reads.Asked, size-reads.Learnt, link-plan-reads.Asked, link-plan-reads.Learnt, plan-behind-reads.Asked, plan-behind-reads.Learnt, is-passed-reads.Asked, is-passed-reads.Learnt, is-branches-reads.Asked, is-branches-reads.Learnt, walk-list-below t, walk-list.Post, either-reads.Asked, either-reads.Learnt, gathered-reads.Asked, gathered-reads.Learnt, of-answered-reads.Asked, of-answered-reads.Learnt, pass-row-reads.Asked, pass-row-reads.Learnt, stopped-reads.Asked, stopped-reads.Learnt, of-passed-reads.Asked, of-passed-reads.Learnt, next-plan-reads.Asked, next-plan-reads.Learnt) (behind-child-at t) behind-child.Post
-behind-child-returns-2 t c = λ table₀ left g. child-behind (contextOf (read ((c .before .before .before .before .before .before .before .before .before .before .before .before .before .before .before .before .before .before .before .before .before .before .before .before .before .before) .args .file .now))) ((c .before .before .before .before .before .before .before .before .before .before .before .before .before .before .before .before .before .before .before .before .before .before .before .before .before .before) .args .s) ((c .before .before .before .before .before .before .before .before .before .before .before .before .before .before .before .before .before .before .before .before .before .before .before .before .before .before) .pre .1 .1 .1 .0) g ((c .before .before .before .before .before .before .before .before .before .before .before .before .before .before .before .before .before .before .before .before .before .work-node) .result) ((c .before .before .before .before .before .before .before .before .before .before .before .before .before .before .before .before .before .before .before .before .before .work-node) .ensures) (row-ended (contextOf (read ((c .before .before .before .before .before .before .before .before .before .before .before .before .before .before .before .before .before .before .before .before .before .before .before .before .before .before) .args .file .now))) ((c .before .before .before .before .before .before .before .before .before .before .before .before .before .before .before .before .before .before .before .before .before .before .before .before .before .before) .args .s) ((c .before .before .before .before .before .before .before .before .before .before .before .before .before .before .before .before .before .before .before .before .before .before .before .before .before .before) .pre .1 .1 .1 .0) g ((c .before .before .before .before .before .before .before .before .before .before .before .before .before .before .plan-behind) .result) ((c .before .before .before .before .before .before .before .before .before .before .before .before .before .before .plan-behind) .ensures ∙ ap (λ p. planBehind p ((c .before .before .before .before .before .before .before .before .before .before .before .before .before .before .before .before .before .before .before .before .before .before .before .before .before .before) .args .child .0 - (c .before .before .before .before .before .before .before .before .before .before .before .before .before .before .before .before .before .before .before .before .before .before .before .before .before .before) .args .b .link .0 - 1)) ((c .before .before .before .before .before .before .before .before .before .before .before .before .before .before .before .before .before .link-plan) .ensures) ∙ plan-was (contextOf (read ((c .before .before .before .before .before .before .before .before .before .before .before .before .before .before .before .before .before .before .before .before .before .before .before .before .before .before) .args .file .now))) ((c .before .before .before .before .before .before .before .before .before .before .before .before .before .before .before .before .before .before .before .before .before .before .before .before .before .before) .args .s) ((c .before .before .before .before .before .before .before .before .before .before .before .before .before .before .before .before .before .before .before .before .before .before .before .before .before .before) .pre .1 .1 .1 .0) g ((c .before .before .before .before .before .before .before .before .before .before .before .before .before .before .before .before .before .before .before .before .before .work-node) .result) ((c .before .before .before .before .before .before .before .before .before .before .before .before .before .before .before .before .before .before .before .before .before .work-node) .ensures)) ((c .before .before .before .before .before .stopped) .result) (sym ((c .before .before .before .before .before .before .before .before .before .before .before .before .is-passed) .ensures) ∙ not-true ((c .before .before .before .before .before .before .before .before .before .before .before .before .is-passed) .result) ((c .before .before .before .before .before .before .before .before .before .before .before .if1) .taken)) (sym ((c .before .before .before .before .before .before .before .before .before .before .is-branches) .ensures) ∙ (c .before .before .before .before .before .before .before .before .before .if2) .left) (subst (λ k. Passes ((c .before .before .before .before .before .before .before .before .before .before .before .before .before .before .before .before .before .before .before .before .before .before .before .before .before .before) .args .nodes .now) ((c .before .before .before .before .before .before .before .before .before .before .before .before .before .before .before .before .before .before .before .before .before .before .before .before .before .before) .args .w .next .0) k ((c .before .before .before .before .before .before .before .pass-row) .result .next .0) ((c .before .before .before .before .before .before .before .pass-row) .result .effect)) (same-left (contextOf (read ((c .before .before .before .before .before .before .before .before .before .before .before .before .before .before .before .before .before .before .before .before .before .before .before .before .before .before) .args .file .now))) ((c .before .before .before .before .before .before .before .before .before .before .before .before .before .before .before .before .before .before .before .before .before .before .before .before .before .before) .args .s) ((c .before .before .before .before .before .before .before .before .before .before .before .before .before .before .before .before .before .before .before .before .before .before .before .before .before .before) .pre .1 .1 .1 .0) g ((c .before .before .before .before .before .before .before .before .before .before .before .before .before .before .before .before .before .before .before .before .before .work-node) .result) ((c .before .before .before .before .before .before .before .before .before .before .before .before .before .before .before .before .before .before .before .before .before .work-node) .ensures) ((c .before .before .before .before .before .before .before .before .before .before .before .before .before .before .before .before .before .before .before .before .size) .result) ((c .before .before .before .before .before .before .before .before .before .before .before .before .before .before .before .before .before .before .before .before .size) .ensures .0)) ((c .before .before .before .before .before .before .before .pass-row) .ensures)) (ap (λ x. x .answer) ((c .before .before .before .before .before .stopped) .ensures)) (ap (λ x. x .next .0) ((c .before .before .before .before .before .stopped) .ensures)) (ap (λ x. x .looks) ((c .before .before .before .before .before .stopped) .ensures)) ((c .before .before .before .before .gathered2) .ensures)) ((c .before .before .of-answered2) .ensures .0 (ap (λ x. isPassed (x .answer)) ((c .before .before .before .before .gathered2) .ensures) ∙ ap (λ x. isPassed (x .answer)) ((c .before .before .before .before .before .stopped) .ensures)) (contextOf (read ((c .before .before .before .before .before .before .before .before .before .before .before .before .before .before .before .before .before .before .before .before .before .before .before .before .before .before) .args .file .now))) false ((c .before .before .before .before .before .before .before .before .before .before .before .before .before .before .before .before .before .before .before .before .before .before .before .before .before .before) .args .s))
+behind-child-returns-2 : (t : ℕ) → behind-child-lts.Need-returns-2 (work-node-reads.Asked, work-node-reads.Learnt, link-plan-reads.Asked, link-plan-reads.Learnt, plan-behind-reads.Asked, plan-behind-reads.Learnt, is-passed-reads.Asked, is-passed-reads.Learnt, is-branches-reads.Asked, is-branches-reads.Learnt, walk-list-below t, walk-list.Post, either-reads.Asked, either-reads.Learnt, gathered-reads.Asked, gathered-reads.Learnt, of-answered-reads.Asked, of-answered-reads.Learnt, pass-row-reads.Asked, pass-row-reads.Learnt, stopped-reads.Asked, stopped-reads.Learnt, of-passed-reads.Asked, of-passed-reads.Learnt, next-plan-reads.Asked, next-plan-reads.Learnt) (behind-child-at t) behind-child.Post
+behind-child-returns-2 t c = λ table₀ g. child-behind (contextOf (read ((c .before .before .before .before .before .before .before .before .before .before .before .before .before .before .before .before .before .before .before .before .before) .args .file .now))) ((c .before .before .before .before .before .before .before .before .before .before .before .before .before .before .before .before .before .before .before .before .before) .args .s) ((c .before .before .before .before .before .before .before .before .before .before .before .before .before .before .before .before .before .before .before .before .before) .pre .1 .1 .1 .0) g ((c .before .before .before .before .before .before .before .before .before .before .before .before .before .before .before .before .work-node) .result) ((c .before .before .before .before .before .before .before .before .before .before .before .before .before .before .before .before .work-node) .ensures) (row-ended (contextOf (read ((c .before .before .before .before .before .before .before .before .before .before .before .before .before .before .before .before .before .before .before .before .before) .args .file .now))) ((c .before .before .before .before .before .before .before .before .before .before .before .before .before .before .before .before .before .before .before .before .before) .args .s) ((c .before .before .before .before .before .before .before .before .before .before .before .before .before .before .before .before .before .before .before .before .before) .pre .1 .1 .1 .0) g ((c .before .before .before .before .before .before .before .before .before .before .before .before .before .before .plan-behind) .result) ((c .before .before .before .before .before .before .before .before .before .before .before .before .before .before .plan-behind) .ensures ∙ ap (λ p. planBehind p ((c .before .before .before .before .before .before .before .before .before .before .before .before .before .before .before .before .before .before .before .before .before) .args .b .before)) ((c .before .before .before .before .before .before .before .before .before .before .before .before .before .before .before .link-plan) .ensures) ∙ plan-was (contextOf (read ((c .before .before .before .before .before .before .before .before .before .before .before .before .before .before .before .before .before .before .before .before .before) .args .file .now))) ((c .before .before .before .before .before .before .before .before .before .before .before .before .before .before .before .before .before .before .before .before .before) .args .s) ((c .before .before .before .before .before .before .before .before .before .before .before .before .before .before .before .before .before .before .before .before .before) .pre .1 .1 .1 .0) g ((c .before .before .before .before .before .before .before .before .before .before .before .before .before .before .before .before .work-node) .result) ((c .before .before .before .before .before .before .before .before .before .before .before .before .before .before .before .before .work-node) .ensures)) ((c .before .before .before .before .before .stopped) .result) (sym ((c .before .before .before .before .before .before .before .before .before .before .before .before .is-passed) .ensures) ∙ not-true ((c .before .before .before .before .before .before .before .before .before .before .before .before .is-passed) .result) ((c .before .before .before .before .before .before .before .before .before .before .before .if1) .taken)) (sym ((c .before .before .before .before .before .before .before .before .before .before .is-branches) .ensures) ∙ (c .before .before .before .before .before .before .before .before .before .if2) .left) ((c .before .before .before .before .before .before .before .pass-row) .ensures) (ap (λ x. x .answer) ((c .before .before .before .before .before .stopped) .ensures)) (ap (λ x. x .next .0) ((c .before .before .before .before .before .stopped) .ensures)) (ap (λ x. x .looks) ((c .before .before .before .before .before .stopped) .ensures)) ((c .before .before .before .before .gathered2) .ensures)) ((c .before .before .of-answered2) .ensures .0 (ap (λ x. isPassed (x .answer)) ((c .before .before .before .before .gathered2) .ensures) ∙ ap (λ x. isPassed (x .answer)) ((c .before .before .before .before .before .stopped) .ensures)) (contextOf (read ((c .before .before .before .before .before .before .before .before .before .before .before .before .before .before .before .before .before .before .before .before .before) .args .file .now))) false ((c .before .before .before .before .before .before .before .before .before .before .before .before .before .before .before .before .before .before .before .before .before) .args .s))
 
-behind-child-gathered-requires-3 : (t : ℕ) → behind-child-lts.Need-gathered-requires-3 (work-node-reads.Asked, work-node-reads.Learnt, size-reads.Asked, size-reads.Learnt, link-plan-reads.Asked, link-plan-reads.Learnt, plan-behind-reads.Asked, plan-behind-reads.Learnt, is-passed-reads.Asked, is-passed-reads.Learnt, is-branches-reads.Asked, is-branches-reads.Learnt, walk-list-below t, walk-list.Post, either-reads.Asked, either-reads.Learnt, gathered-reads.Asked, gathered-reads.Learnt, of-answered-reads.Asked, of-answered-reads.Learnt, pass-row-reads.Asked, pass-row-reads.Learnt, stopped-reads.Asked, stopped-reads.Learnt, of-passed-reads.Asked, of-passed-reads.Learnt, next-plan-reads.Asked, next-plan-reads.Learnt) (behind-child-at t) behind-child.Post
-behind-child-gathered-requires-3 t c κs = omega (arith, behind-room (contextOf (read ((c .before .before .before .before .before .before .before .before .before .before .before .before .before .before .before .before) .args .file .now))) ((c .before .before .before .before .before .before .before .before .before .before .before .before .before .before .before .before) .args .s) ((c .before .before .before .before .before .before .before .before .before .before .before .before .before .before .before .before) .pre .1 .1 .1 .0) ((c .before .before .before .before .before .before .before .before .before .before .before .before .before .before .before .before) .pre .1 .1 .1 .1 .2), behind-seen (contextOf (read ((c .before .before .before .before .before .before .before .before .before .before .before .before .before .before .before .before) .args .file .now))) ((c .before .before .before .before .before .before .before .before .before .before .before .before .before .before .before .before) .args .s) ((c .before .before .before .before .before .before .before .before .before .before .before .before .before .before .before .before) .pre .1 .1 .1 .0) ((c .before .before .before .before .before .before .before .before .before .before .before .before .before .before .before .before) .pre .1 .1 .1 .1 .2), behind-looks (contextOf (read ((c .before .before .before .before .before .before .before .before .before .before .before .before .before .before .before .before) .args .file .now))) ((c .before .before .before .before .before .before .before .before .before .before .before .before .before .before .before .before) .args .s) ((c .before .before .before .before .before .before .before .before .before .before .before .before .before .before .before .before) .pre .1 .1 .1 .0) ((c .before .before .before .before .before .before .before .before .before .before .before .before .before .before .before .before) .pre .1 .1 .1 .1 .2), (c .before .before .before .before .before .before .before .before .before .before .before .before .before .before .before .before) .good .1 .1 .0)
+behind-child-gathered-requires-3 : (t : ℕ) → behind-child-lts.Need-gathered-requires-3 (work-node-reads.Asked, work-node-reads.Learnt, link-plan-reads.Asked, link-plan-reads.Learnt, plan-behind-reads.Asked, plan-behind-reads.Learnt, is-passed-reads.Asked, is-passed-reads.Learnt, is-branches-reads.Asked, is-branches-reads.Learnt, walk-list-below t, walk-list.Post, either-reads.Asked, either-reads.Learnt, gathered-reads.Asked, gathered-reads.Learnt, of-answered-reads.Asked, of-answered-reads.Learnt, pass-row-reads.Asked, pass-row-reads.Learnt, stopped-reads.Asked, stopped-reads.Learnt, of-passed-reads.Asked, of-passed-reads.Learnt, next-plan-reads.Asked, next-plan-reads.Learnt) (behind-child-at t) behind-child.Post
+behind-child-gathered-requires-3 t c κs = omega (arith, behind-room (contextOf (read ((c .before .before .before .before .before .before .before .before .before .before .before) .args .file .now))) ((c .before .before .before .before .before .before .before .before .before .before .before) .args .s) ((c .before .before .before .before .before .before .before .before .before .before .before) .pre .1 .1 .1 .0) ((c .before .before .before .before .before .before .before .before .before .before .before) .pre .1 .1 .1 .1 .1), behind-seen (contextOf (read ((c .before .before .before .before .before .before .before .before .before .before .before) .args .file .now))) ((c .before .before .before .before .before .before .before .before .before .before .before) .args .s) ((c .before .before .before .before .before .before .before .before .before .before .before) .pre .1 .1 .1 .0) ((c .before .before .before .before .before .before .before .before .before .before .before) .pre .1 .1 .1 .1 .1), behind-looks (contextOf (read ((c .before .before .before .before .before .before .before .before .before .before .before) .args .file .now))) ((c .before .before .before .before .before .before .before .before .before .before .before) .args .s) ((c .before .before .before .before .before .before .before .before .before .before .before) .pre .1 .1 .1 .0) ((c .before .before .before .before .before .before .before .before .before .before .before) .pre .1 .1 .1 .1 .1), (c .before .before .before .before .before .before .before .before .before .before .before) .good .1 .1 .0)
 
-behind-child-of-passed-requires : (t : ℕ) → behind-child-lts.Need-of-passed-requires (work-node-reads.Asked, work-node-reads.Learnt, size-reads.Asked, size-reads.Learnt, link-plan-reads.Asked, link-plan-reads.Learnt, plan-behind-reads.Asked, plan-behind-reads.Learnt, is-passed-reads.Asked, is-passed-reads.Learnt, is-branches-reads.Asked, is-branches-reads.Learnt, walk-list-below t, walk-list.Post, either-reads.Asked, either-reads.Learnt, gathered-reads.Asked, gathered-reads.Learnt, of-answered-reads.Asked, of-answered-reads.Learnt, pass-row-reads.Asked, pass-row-reads.Learnt, stopped-reads.Asked, stopped-reads.Learnt, of-passed-reads.Asked, of-passed-reads.Learnt, next-plan-reads.Asked, next-plan-reads.Learnt) (behind-child-at t) behind-child.Post
-behind-child-of-passed-requires t c κs = let e : (c .gathered3) .result .looks ≡ (c .before .before .before .before .before .before .before .before .before .before .before .before .before .before .before .before .before) .args .b .looks + (c .before .before .before .before .before .before .before .before .before .before .before .before .before .before .before .before .before) .args .w .looks = ap (λ x. x .looks) ((c .gathered3) .ensures) in ((c .before .before .before .before .before .before .before .before .before .before .before .before .before .before .before .before .before) .pre .1 .0, ((c .before .before .before .before .before .before .before .before .before .before .before .before .before .before .before .before .before) .pre .1 .1 .0, omega (arith, e, behind-room (contextOf (read ((c .before .before .before .before .before .before .before .before .before .before .before .before .before .before .before .before .before) .args .file .now))) ((c .before .before .before .before .before .before .before .before .before .before .before .before .before .before .before .before .before) .args .s) ((c .before .before .before .before .before .before .before .before .before .before .before .before .before .before .before .before .before) .pre .1 .1 .1 .0) ((c .before .before .before .before .before .before .before .before .before .before .before .before .before .before .before .before .before) .pre .1 .1 .1 .1 .2), behind-seen (contextOf (read ((c .before .before .before .before .before .before .before .before .before .before .before .before .before .before .before .before .before) .args .file .now))) ((c .before .before .before .before .before .before .before .before .before .before .before .before .before .before .before .before .before) .args .s) ((c .before .before .before .before .before .before .before .before .before .before .before .before .before .before .before .before .before) .pre .1 .1 .1 .0) ((c .before .before .before .before .before .before .before .before .before .before .before .before .before .before .before .before .before) .pre .1 .1 .1 .1 .2), behind-looks (contextOf (read ((c .before .before .before .before .before .before .before .before .before .before .before .before .before .before .before .before .before) .args .file .now))) ((c .before .before .before .before .before .before .before .before .before .before .before .before .before .before .before .before .before) .args .s) ((c .before .before .before .before .before .before .before .before .before .before .before .before .before .before .before .before .before) .pre .1 .1 .1 .0) ((c .before .before .before .before .before .before .before .before .before .before .before .before .before .before .before .before .before) .pre .1 .1 .1 .1 .2), (c .before .before .before .before .before .before .before .before .before .before .before .before .before .before .before .before .before) .good .1 .1 .0)))
+behind-child-of-passed-requires : (t : ℕ) → behind-child-lts.Need-of-passed-requires (work-node-reads.Asked, work-node-reads.Learnt, link-plan-reads.Asked, link-plan-reads.Learnt, plan-behind-reads.Asked, plan-behind-reads.Learnt, is-passed-reads.Asked, is-passed-reads.Learnt, is-branches-reads.Asked, is-branches-reads.Learnt, walk-list-below t, walk-list.Post, either-reads.Asked, either-reads.Learnt, gathered-reads.Asked, gathered-reads.Learnt, of-answered-reads.Asked, of-answered-reads.Learnt, pass-row-reads.Asked, pass-row-reads.Learnt, stopped-reads.Asked, stopped-reads.Learnt, of-passed-reads.Asked, of-passed-reads.Learnt, next-plan-reads.Asked, next-plan-reads.Learnt) (behind-child-at t) behind-child.Post
+behind-child-of-passed-requires t c κs = let e : (c .gathered3) .result .looks ≡ (c .before .before .before .before .before .before .before .before .before .before .before .before) .args .b .looks + (c .before .before .before .before .before .before .before .before .before .before .before .before) .args .w .looks = ap (λ x. x .looks) ((c .gathered3) .ensures) in ((c .before .before .before .before .before .before .before .before .before .before .before .before) .pre .1 .0, ((c .before .before .before .before .before .before .before .before .before .before .before .before) .pre .1 .1 .0, omega (arith, e, behind-room (contextOf (read ((c .before .before .before .before .before .before .before .before .before .before .before .before) .args .file .now))) ((c .before .before .before .before .before .before .before .before .before .before .before .before) .args .s) ((c .before .before .before .before .before .before .before .before .before .before .before .before) .pre .1 .1 .1 .0) ((c .before .before .before .before .before .before .before .before .before .before .before .before) .pre .1 .1 .1 .1 .1), behind-seen (contextOf (read ((c .before .before .before .before .before .before .before .before .before .before .before .before) .args .file .now))) ((c .before .before .before .before .before .before .before .before .before .before .before .before) .args .s) ((c .before .before .before .before .before .before .before .before .before .before .before .before) .pre .1 .1 .1 .0) ((c .before .before .before .before .before .before .before .before .before .before .before .before) .pre .1 .1 .1 .1 .1), behind-looks (contextOf (read ((c .before .before .before .before .before .before .before .before .before .before .before .before) .args .file .now))) ((c .before .before .before .before .before .before .before .before .before .before .before .before) .args .s) ((c .before .before .before .before .before .before .before .before .before .before .before .before) .pre .1 .1 .1 .0) ((c .before .before .before .before .before .before .before .before .before .before .before .before) .pre .1 .1 .1 .1 .1), (c .before .before .before .before .before .before .before .before .before .before .before .before) .good .1 .1 .0)))
 
-behind-child-same-length-3 : (t : ℕ) → behind-child-lts.Need-same-length-3 (work-node-reads.Asked, work-node-reads.Learnt, size-reads.Asked, size-reads.Learnt, link-plan-reads.Asked, link-plan-reads.Learnt, plan-behind-reads.Asked, plan-behind-reads.Learnt, is-passed-reads.Asked, is-passed-reads.Learnt, is-branches-reads.Asked, is-branches-reads.Learnt, walk-list-below t, walk-list.Post, either-reads.Asked, either-reads.Learnt, gathered-reads.Asked, gathered-reads.Learnt, of-answered-reads.Asked, of-answered-reads.Learnt, pass-row-reads.Asked, pass-row-reads.Learnt, stopped-reads.Asked, stopped-reads.Learnt, of-passed-reads.Asked, of-passed-reads.Learnt, next-plan-reads.Asked, next-plan-reads.Learnt) (behind-child-at t) behind-child.Post
+behind-child-same-length-3 : (t : ℕ) → behind-child-lts.Need-same-length-3 (work-node-reads.Asked, work-node-reads.Learnt, link-plan-reads.Asked, link-plan-reads.Learnt, plan-behind-reads.Asked, plan-behind-reads.Learnt, is-passed-reads.Asked, is-passed-reads.Learnt, is-branches-reads.Asked, is-branches-reads.Learnt, walk-list-below t, walk-list.Post, either-reads.Asked, either-reads.Learnt, gathered-reads.Asked, gathered-reads.Learnt, of-answered-reads.Asked, of-answered-reads.Learnt, pass-row-reads.Asked, pass-row-reads.Learnt, stopped-reads.Asked, stopped-reads.Learnt, of-passed-reads.Asked, of-passed-reads.Learnt, next-plan-reads.Asked, next-plan-reads.Learnt) (behind-child-at t) behind-child.Post
 behind-child-same-length-3 t c = search needs
 
-behind-child-returns-3 : (t : ℕ) → behind-child-lts.Need-returns-3 (work-node-reads.Asked, work-node-reads.Learnt, size-reads.Asked, size-reads.Learnt, link-plan-reads.Asked, link-plan-reads.Learnt, plan-behind-reads.Asked, plan-behind-reads.Learnt, is-passed-reads.Asked, is-passed-reads.Learnt, is-branches-reads.Asked, is-branches-reads.Learnt, walk-list-below t, walk-list.Post, either-reads.Asked, either-reads.Learnt, gathered-reads.Asked, gathered-reads.Learnt, of-answered-reads.Asked, of-answered-reads.Learnt, pass-row-reads.Asked, pass-row-reads.Learnt, stopped-reads.Asked, stopped-reads.Learnt, of-passed-reads.Asked, of-passed-reads.Learnt, next-plan-reads.Asked, next-plan-reads.Learnt) (behind-child-at t) behind-child.Post
-behind-child-returns-3 t c = λ table₀ left g. child-behind (contextOf (read ((c .before .before .before .before .before .before .before .before .before .before .before .before .before .before .before .before .before .before) .args .file .now))) ((c .before .before .before .before .before .before .before .before .before .before .before .before .before .before .before .before .before .before) .args .s) ((c .before .before .before .before .before .before .before .before .before .before .before .before .before .before .before .before .before .before) .pre .1 .1 .1 .0) g ((c .before .before .before .before .before .before .before .before .before .before .before .before .before .work-node) .result) ((c .before .before .before .before .before .before .before .before .before .before .before .before .before .work-node) .ensures) (row-last (contextOf (read ((c .before .before .before .before .before .before .before .before .before .before .before .before .before .before .before .before .before .before) .args .file .now))) ((c .before .before .before .before .before .before .before .before .before .before .before .before .before .before .before .before .before .before) .args .s) ((c .before .before .before .before .before .before .before .before .before .before .before .before .before .before .before .before .before .before) .pre .1 .1 .1 .0) g ((c .before .before .before .before .before .before .plan-behind) .result) ((c .before .before .before .before .before .before .plan-behind) .ensures ∙ ap (λ p. planBehind p ((c .before .before .before .before .before .before .before .before .before .before .before .before .before .before .before .before .before .before) .args .child .0 - (c .before .before .before .before .before .before .before .before .before .before .before .before .before .before .before .before .before .before) .args .b .link .0 - 1)) ((c .before .before .before .before .before .before .before .before .before .link-plan) .ensures) ∙ plan-was (contextOf (read ((c .before .before .before .before .before .before .before .before .before .before .before .before .before .before .before .before .before .before) .args .file .now))) ((c .before .before .before .before .before .before .before .before .before .before .before .before .before .before .before .before .before .before) .args .s) ((c .before .before .before .before .before .before .before .before .before .before .before .before .before .before .before .before .before .before) .pre .1 .1 .1 .0) g ((c .before .before .before .before .before .before .before .before .before .before .before .before .before .work-node) .result) ((c .before .before .before .before .before .before .before .before .before .before .before .before .before .work-node) .ensures)) (sym (same-left (contextOf (read ((c .before .before .before .before .before .before .before .before .before .before .before .before .before .before .before .before .before .before) .args .file .now))) ((c .before .before .before .before .before .before .before .before .before .before .before .before .before .before .before .before .before .before) .args .s) ((c .before .before .before .before .before .before .before .before .before .before .before .before .before .before .before .before .before .before) .pre .1 .1 .1 .0) g ((c .before .before .before .before .before .before .before .before .before .before .before .before .before .work-node) .result) ((c .before .before .before .before .before .before .before .before .before .before .before .before .before .work-node) .ensures) ((c .before .before .before .before .before .before .before .before .before .before .before .before .size) .result) ((c .before .before .before .before .before .before .before .before .before .before .before .before .size) .ensures .0)) ∙ (c .before .before .if3) .taken) ((c .before .gathered3) .ensures)) ((c .of-passed) .ensures (ap (λ x. isPassed (x .answer)) ((c .before .gathered3) .ensures) ∙ (sym ((c .before .before .before .before .is-passed) .ensures) ∙ not-false ((c .before .before .before .before .is-passed) .result) ((c .before .before .before .if1) .left))) ((c .before .before .before .before .before .before .before .before .before .before .before .before .before .before .before .before .before .before) .args .nodes .now) ((c .before .before .before .before .before .before .before .before .before .before .before .before .before .before .before .before .before .before) .args .b .link .0))
+behind-child-returns-3 : (t : ℕ) → behind-child-lts.Need-returns-3 (work-node-reads.Asked, work-node-reads.Learnt, link-plan-reads.Asked, link-plan-reads.Learnt, plan-behind-reads.Asked, plan-behind-reads.Learnt, is-passed-reads.Asked, is-passed-reads.Learnt, is-branches-reads.Asked, is-branches-reads.Learnt, walk-list-below t, walk-list.Post, either-reads.Asked, either-reads.Learnt, gathered-reads.Asked, gathered-reads.Learnt, of-answered-reads.Asked, of-answered-reads.Learnt, pass-row-reads.Asked, pass-row-reads.Learnt, stopped-reads.Asked, stopped-reads.Learnt, of-passed-reads.Asked, of-passed-reads.Learnt, next-plan-reads.Asked, next-plan-reads.Learnt) (behind-child-at t) behind-child.Post
+behind-child-returns-3 t c = λ table₀ g. child-behind (contextOf (read ((c .before .before .before .before .before .before .before .before .before .before .before .before .before) .args .file .now))) ((c .before .before .before .before .before .before .before .before .before .before .before .before .before) .args .s) ((c .before .before .before .before .before .before .before .before .before .before .before .before .before) .pre .1 .1 .1 .0) g ((c .before .before .before .before .before .before .before .before .work-node) .result) ((c .before .before .before .before .before .before .before .before .work-node) .ensures) (row-last (contextOf (read ((c .before .before .before .before .before .before .before .before .before .before .before .before .before) .args .file .now))) ((c .before .before .before .before .before .before .before .before .before .before .before .before .before) .args .s) ((c .before .before .before .before .before .before .before .before .before .before .before .before .before) .pre .1 .1 .1 .0) g ((c .before .before .before .before .before .before .plan-behind) .result) ((c .before .before .before .before .before .before .plan-behind) .ensures ∙ ap (λ p. planBehind p ((c .before .before .before .before .before .before .before .before .before .before .before .before .before) .args .b .before)) ((c .before .before .before .before .before .before .before .link-plan) .ensures) ∙ plan-was (contextOf (read ((c .before .before .before .before .before .before .before .before .before .before .before .before .before) .args .file .now))) ((c .before .before .before .before .before .before .before .before .before .before .before .before .before) .args .s) ((c .before .before .before .before .before .before .before .before .before .before .before .before .before) .pre .1 .1 .1 .0) g ((c .before .before .before .before .before .before .before .before .work-node) .result) ((c .before .before .before .before .before .before .before .before .work-node) .ensures)) ((c .before .before .if3) .taken) ((c .before .gathered3) .ensures)) ((c .of-passed) .ensures (ap (λ x. isPassed (x .answer)) ((c .before .gathered3) .ensures) ∙ (sym ((c .before .before .before .before .is-passed) .ensures) ∙ not-false ((c .before .before .before .before .is-passed) .result) ((c .before .before .before .if1) .left))) ((c .before .before .before .before .before .before .before .before .before .before .before .before .before) .args .nodes .now) ((c .before .before .before .before .before .before .before .before .before .before .before .before .before) .args .b .link .0))
 
-behind-child-next-plan-requires : (t : ℕ) → behind-child-lts.Need-next-plan-requires (work-node-reads.Asked, work-node-reads.Learnt, size-reads.Asked, size-reads.Learnt, link-plan-reads.Asked, link-plan-reads.Learnt, plan-behind-reads.Asked, plan-behind-reads.Learnt, is-passed-reads.Asked, is-passed-reads.Learnt, is-branches-reads.Asked, is-branches-reads.Learnt, walk-list-below t, walk-list.Post, either-reads.Asked, either-reads.Learnt, gathered-reads.Asked, gathered-reads.Learnt, of-answered-reads.Asked, of-answered-reads.Learnt, pass-row-reads.Asked, pass-row-reads.Learnt, stopped-reads.Asked, stopped-reads.Learnt, of-passed-reads.Asked, of-passed-reads.Learnt, next-plan-reads.Asked, next-plan-reads.Learnt) (behind-child-at t) behind-child.Post
+behind-child-next-plan-requires : (t : ℕ) → behind-child-lts.Need-next-plan-requires (work-node-reads.Asked, work-node-reads.Learnt, link-plan-reads.Asked, link-plan-reads.Learnt, plan-behind-reads.Asked, plan-behind-reads.Learnt, is-passed-reads.Asked, is-passed-reads.Learnt, is-branches-reads.Asked, is-branches-reads.Learnt, walk-list-below t, walk-list.Post, either-reads.Asked, either-reads.Learnt, gathered-reads.Asked, gathered-reads.Learnt, of-answered-reads.Asked, of-answered-reads.Learnt, pass-row-reads.Asked, pass-row-reads.Learnt, stopped-reads.Asked, stopped-reads.Learnt, of-passed-reads.Asked, of-passed-reads.Learnt, next-plan-reads.Asked, next-plan-reads.Learnt) (behind-child-at t) behind-child.Post
 behind-child-next-plan-requires t c κs = tt
 
-behind-child-walk-list-requires-2 : (t : ℕ) → behind-child-lts.Need-walk-list-requires-2 (work-node-reads.Asked, work-node-reads.Learnt, size-reads.Asked, size-reads.Learnt, link-plan-reads.Asked, link-plan-reads.Learnt, plan-behind-reads.Asked, plan-behind-reads.Learnt, is-passed-reads.Asked, is-passed-reads.Learnt, is-branches-reads.Asked, is-branches-reads.Learnt, walk-list-below t, walk-list.Post, either-reads.Asked, either-reads.Learnt, gathered-reads.Asked, gathered-reads.Learnt, of-answered-reads.Asked, of-answered-reads.Learnt, pass-row-reads.Asked, pass-row-reads.Learnt, stopped-reads.Asked, stopped-reads.Learnt, of-passed-reads.Asked, of-passed-reads.Learnt, next-plan-reads.Asked, next-plan-reads.Learnt) (behind-child-at t) behind-child.Post
-behind-child-walk-list-requires-2 t c κs = (omega (arith, (c .before .before .before .before .before .before .before .before .before .before .before .before .before .before .before .before .before .before) .pre .0, behind-row (contextOf (read ((c .before .before .before .before .before .before .before .before .before .before .before .before .before .before .before .before .before .before) .args .file .now))) ((c .before .before .before .before .before .before .before .before .before .before .before .before .before .before .before .before .before .before) .args .s) ((c .before .before .before .before .before .before .before .before .before .before .before .before .before .before .before .before .before .before) .pre .1 .1 .1 .0) ((c .before .before .before .before .before .before .before .before .before .before .before .before .before .before .before .before .before .before) .pre .1 .1 .1 .1 .2) .1, ((c .before .before .before .before .before .before .before .before .before .before .before .before .before .before .before .before .before .before) .pre .1 .1 .1 .1 .2) .reaches .later, behind-room (contextOf (read ((c .before .before .before .before .before .before .before .before .before .before .before .before .before .before .before .before .before .before) .args .file .now))) ((c .before .before .before .before .before .before .before .before .before .before .before .before .before .before .before .before .before .before) .args .s) ((c .before .before .before .before .before .before .before .before .before .before .before .before .before .before .before .before .before .before) .pre .1 .1 .1 .0) ((c .before .before .before .before .before .before .before .before .before .before .before .before .before .before .before .before .before .before) .pre .1 .1 .1 .1 .2)), ((c .before .before .before .before .before .before .before .before .before .before .before .before .before .before .before .before .before .before) .pre .1 .0, ((c .before .before .before .before .before .before .before .before .before .before .before .before .before .before .before .before .before .before) .pre .1 .1 .0, ((subst (SearchableRow ((c .before .before .before .before .before .before .before .before .before .before .before .before .before .before .before .before .before .before) .args .nodes .now) ((c .before .before .before .before .before .before .before .before .before .before .before .before .before .before .before .before .before .before) .args .w .next .0)) (sym (same-left (contextOf (read ((c .before .before .before .before .before .before .before .before .before .before .before .before .before .before .before .before .before .before) .args .file .now))) ((c .before .before .before .before .before .before .before .before .before .before .before .before .before .before .before .before .before .before) .args .s) ((c .before .before .before .before .before .before .before .before .before .before .before .before .before .before .before .before .before .before) .pre .1 .1 .1 .0) ((c .before .before .before .before .before .before .before .before .before .before .before .before .before .before .before .before .before .before) .pre .1 .1 .1 .1 .2) ((c .before .before .before .before .before .before .before .before .before .before .before .before .before .work-node) .result) ((c .before .before .before .before .before .before .before .before .before .before .before .before .before .work-node) .ensures) ((c .before .before .before .before .before .before .before .before .before .before .before .before .size) .result) ((c .before .before .before .before .before .before .before .before .before .before .before .before .size) .ensures .0))) (behind-row (contextOf (read ((c .before .before .before .before .before .before .before .before .before .before .before .before .before .before .before .before .before .before) .args .file .now))) ((c .before .before .before .before .before .before .before .before .before .before .before .before .before .before .before .before .before .before) .args .s) ((c .before .before .before .before .before .before .before .before .before .before .before .before .before .before .before .before .before .before) .pre .1 .1 .1 .0) ((c .before .before .before .before .before .before .before .before .before .before .before .before .before .before .before .before .before .before) .pre .1 .1 .1 .1 .2) .0)), ((c .before .before .before .before .before .before .before .before .before .before .before .before .before .before .before .before .before .before) .pre .1 .1 .1 .0)))))
+behind-child-walk-list-requires-2 : (t : ℕ) → behind-child-lts.Need-walk-list-requires-2 (work-node-reads.Asked, work-node-reads.Learnt, link-plan-reads.Asked, link-plan-reads.Learnt, plan-behind-reads.Asked, plan-behind-reads.Learnt, is-passed-reads.Asked, is-passed-reads.Learnt, is-branches-reads.Asked, is-branches-reads.Learnt, walk-list-below t, walk-list.Post, either-reads.Asked, either-reads.Learnt, gathered-reads.Asked, gathered-reads.Learnt, of-answered-reads.Asked, of-answered-reads.Learnt, pass-row-reads.Asked, pass-row-reads.Learnt, stopped-reads.Asked, stopped-reads.Learnt, of-passed-reads.Asked, of-passed-reads.Learnt, next-plan-reads.Asked, next-plan-reads.Learnt) (behind-child-at t) behind-child.Post
+behind-child-walk-list-requires-2 t c κs = (omega (arith, (c .before .before .before .before .before .before .before .before .before .before .before .before .before) .pre .0, behind-row (contextOf (read ((c .before .before .before .before .before .before .before .before .before .before .before .before .before) .args .file .now))) ((c .before .before .before .before .before .before .before .before .before .before .before .before .before) .args .s) ((c .before .before .before .before .before .before .before .before .before .before .before .before .before) .pre .1 .1 .1 .0) ((c .before .before .before .before .before .before .before .before .before .before .before .before .before) .pre .1 .1 .1 .1 .1) .1, ((c .before .before .before .before .before .before .before .before .before .before .before .before .before) .pre .1 .1 .1 .1 .1) .reaches .above .later, behind-room (contextOf (read ((c .before .before .before .before .before .before .before .before .before .before .before .before .before) .args .file .now))) ((c .before .before .before .before .before .before .before .before .before .before .before .before .before) .args .s) ((c .before .before .before .before .before .before .before .before .before .before .before .before .before) .pre .1 .1 .1 .0) ((c .before .before .before .before .before .before .before .before .before .before .before .before .before) .pre .1 .1 .1 .1 .1)), ((c .before .before .before .before .before .before .before .before .before .before .before .before .before) .pre .1 .0, ((c .before .before .before .before .before .before .before .before .before .before .before .before .before) .pre .1 .1 .0, ((behind-row (contextOf (read ((c .before .before .before .before .before .before .before .before .before .before .before .before .before) .args .file .now))) ((c .before .before .before .before .before .before .before .before .before .before .before .before .before) .args .s) ((c .before .before .before .before .before .before .before .before .before .before .before .before .before) .pre .1 .1 .1 .0) ((c .before .before .before .before .before .before .before .before .before .before .before .before .before) .pre .1 .1 .1 .1 .1) .0), ((c .before .before .before .before .before .before .before .before .before .before .before .before .before) .pre .1 .1 .1 .0)))))
 
-behind-child-add-gathered : (t : ℕ) → behind-child-lts.Need-add-gathered (work-node-reads.Asked, work-node-reads.Learnt, size-reads.Asked, size-reads.Learnt, link-plan-reads.Asked, link-plan-reads.Learnt, plan-behind-reads.Asked, plan-behind-reads.Learnt, is-passed-reads.Asked, is-passed-reads.Learnt, is-branches-reads.Asked, is-branches-reads.Learnt, walk-list-below t, walk-list.Post, either-reads.Asked, either-reads.Learnt, gathered-reads.Asked, gathered-reads.Learnt, of-answered-reads.Asked, of-answered-reads.Learnt, pass-row-reads.Asked, pass-row-reads.Learnt, stopped-reads.Asked, stopped-reads.Learnt, of-passed-reads.Asked, of-passed-reads.Learnt, next-plan-reads.Asked, next-plan-reads.Learnt) (behind-child-at t) behind-child.Post
-behind-child-add-gathered t c = omega (arith, behind-room (contextOf (read ((c .before .before .before .before .before .before .before .before .before .before .before .before .before .before .before .before .before .before .before .before .before .before .before .before .before) .args .file .now))) ((c .before .before .before .before .before .before .before .before .before .before .before .before .before .before .before .before .before .before .before .before .before .before .before .before .before) .args .s) ((c .before .before .before .before .before .before .before .before .before .before .before .before .before .before .before .before .before .before .before .before .before .before .before .before .before) .pre .1 .1 .1 .0) ((c .before .before .before .before .before .before .before .before .before .before .before .before .before .before .before .before .before .before .before .before .before .before .before .before .before) .pre .1 .1 .1 .1 .2), behind-seen (contextOf (read ((c .before .before .before .before .before .before .before .before .before .before .before .before .before .before .before .before .before .before .before .before .before .before .before .before .before) .args .file .now))) ((c .before .before .before .before .before .before .before .before .before .before .before .before .before .before .before .before .before .before .before .before .before .before .before .before .before) .args .s) ((c .before .before .before .before .before .before .before .before .before .before .before .before .before .before .before .before .before .before .before .before .before .before .before .before .before) .pre .1 .1 .1 .0) ((c .before .before .before .before .before .before .before .before .before .before .before .before .before .before .before .before .before .before .before .before .before .before .before .before .before) .pre .1 .1 .1 .1 .2), behind-looks (contextOf (read ((c .before .before .before .before .before .before .before .before .before .before .before .before .before .before .before .before .before .before .before .before .before .before .before .before .before) .args .file .now))) ((c .before .before .before .before .before .before .before .before .before .before .before .before .before .before .before .before .before .before .before .before .before .before .before .before .before) .args .s) ((c .before .before .before .before .before .before .before .before .before .before .before .before .before .before .before .before .before .before .before .before .before .before .before .before .before) .pre .1 .1 .1 .0) ((c .before .before .before .before .before .before .before .before .before .before .before .before .before .before .before .before .before .before .before .before .before .before .before .before .before) .pre .1 .1 .1 .1 .2), (c .before .before .before .before .before .before .before .before .before .before .before .before .before .before .before .before .before .before .before .before .before .before .before .before .before) .good .1 .1 .0)
+behind-child-add-gathered : (t : ℕ) → behind-child-lts.Need-add-gathered (work-node-reads.Asked, work-node-reads.Learnt, link-plan-reads.Asked, link-plan-reads.Learnt, plan-behind-reads.Asked, plan-behind-reads.Learnt, is-passed-reads.Asked, is-passed-reads.Learnt, is-branches-reads.Asked, is-branches-reads.Learnt, walk-list-below t, walk-list.Post, either-reads.Asked, either-reads.Learnt, gathered-reads.Asked, gathered-reads.Learnt, of-answered-reads.Asked, of-answered-reads.Learnt, pass-row-reads.Asked, pass-row-reads.Learnt, stopped-reads.Asked, stopped-reads.Learnt, of-passed-reads.Asked, of-passed-reads.Learnt, next-plan-reads.Asked, next-plan-reads.Learnt) (behind-child-at t) behind-child.Post
+behind-child-add-gathered t c = omega (arith, behind-room (contextOf (read ((c .before .before .before .before .before .before .before .before .before .before .before .before .before .before .before .before .before .before .before .before) .args .file .now))) ((c .before .before .before .before .before .before .before .before .before .before .before .before .before .before .before .before .before .before .before .before) .args .s) ((c .before .before .before .before .before .before .before .before .before .before .before .before .before .before .before .before .before .before .before .before) .pre .1 .1 .1 .0) ((c .before .before .before .before .before .before .before .before .before .before .before .before .before .before .before .before .before .before .before .before) .pre .1 .1 .1 .1 .1), behind-seen (contextOf (read ((c .before .before .before .before .before .before .before .before .before .before .before .before .before .before .before .before .before .before .before .before) .args .file .now))) ((c .before .before .before .before .before .before .before .before .before .before .before .before .before .before .before .before .before .before .before .before) .args .s) ((c .before .before .before .before .before .before .before .before .before .before .before .before .before .before .before .before .before .before .before .before) .pre .1 .1 .1 .0) ((c .before .before .before .before .before .before .before .before .before .before .before .before .before .before .before .before .before .before .before .before) .pre .1 .1 .1 .1 .1), behind-looks (contextOf (read ((c .before .before .before .before .before .before .before .before .before .before .before .before .before .before .before .before .before .before .before .before) .args .file .now))) ((c .before .before .before .before .before .before .before .before .before .before .before .before .before .before .before .before .before .before .before .before) .args .s) ((c .before .before .before .before .before .before .before .before .before .before .before .before .before .before .before .before .before .before .before .before) .pre .1 .1 .1 .0) ((c .before .before .before .before .before .before .before .before .before .before .before .before .before .before .before .before .before .before .before .before) .pre .1 .1 .1 .1 .1), (c .before .before .before .before .before .before .before .before .before .before .before .before .before .before .before .before .before .before .before .before) .good .1 .1 .0)
 
-behind-child-gathered-requires-4 : (t : ℕ) → behind-child-lts.Need-gathered-requires-4 (work-node-reads.Asked, work-node-reads.Learnt, size-reads.Asked, size-reads.Learnt, link-plan-reads.Asked, link-plan-reads.Learnt, plan-behind-reads.Asked, plan-behind-reads.Learnt, is-passed-reads.Asked, is-passed-reads.Learnt, is-branches-reads.Asked, is-branches-reads.Learnt, walk-list-below t, walk-list.Post, either-reads.Asked, either-reads.Learnt, gathered-reads.Asked, gathered-reads.Learnt, of-answered-reads.Asked, of-answered-reads.Learnt, pass-row-reads.Asked, pass-row-reads.Learnt, stopped-reads.Asked, stopped-reads.Learnt, of-passed-reads.Asked, of-passed-reads.Learnt, next-plan-reads.Asked, next-plan-reads.Learnt) (behind-child-at t) behind-child.Post
-behind-child-gathered-requires-4 t c κs = omega (arith, behind-row (contextOf (read ((c .before .before .before .before .before .before .before .before .before .before .before .before .before .before .before .before .before .before .before .before .before .before .before .before .before) .args .file .now))) ((c .before .before .before .before .before .before .before .before .before .before .before .before .before .before .before .before .before .before .before .before .before .before .before .before .before) .args .s) ((c .before .before .before .before .before .before .before .before .before .before .before .before .before .before .before .before .before .before .before .before .before .before .before .before .before) .pre .1 .1 .1 .0) ((c .before .before .before .before .before .before .before .before .before .before .before .before .before .before .before .before .before .before .before .before .before .before .before .before .before) .pre .1 .1 .1 .1 .2) .2, behind-seen (contextOf (read ((c .before .before .before .before .before .before .before .before .before .before .before .before .before .before .before .before .before .before .before .before .before .before .before .before .before) .args .file .now))) ((c .before .before .before .before .before .before .before .before .before .before .before .before .before .before .before .before .before .before .before .before .before .before .before .before .before) .args .s) ((c .before .before .before .before .before .before .before .before .before .before .before .before .before .before .before .before .before .before .before .before .before .before .before .before .before) .pre .1 .1 .1 .0) ((c .before .before .before .before .before .before .before .before .before .before .before .before .before .before .before .before .before .before .before .before .before .before .before .before .before) .pre .1 .1 .1 .1 .2), row-looks-most (contextOf (read ((c .before .before .before .before .before .before .before .before .before .before .before .before .before .before .before .before .before .before .before .before .before .before .before .before .before) .args .file .now))) ((c .before .before .before .before .before .before .before .before .before .before .before .before .before .before .before .before .before .before .before .before .before .before .before .before .before) .args .s) ((c .before .before .before .before .before .before .before .before .next-plan) .result) ((c .before .before .before .before .before .before .before .before .before .before .before .before .before .before .before .before .before .before .before .before .before .before .before .before .before) .pre .1 .1 .1 .0) (subst (SearchableRow ((c .before .before .before .before .before .before .before .before .before .before .before .before .before .before .before .before .before .before .before .before .before .before .before .before .before) .args .nodes .now) ((c .before .before .before .before .before .before .before .before .before .before .before .before .before .before .before .before .before .before .before .before .before .before .before .before .before) .args .w .next .0)) (sym (same-left (contextOf (read ((c .before .before .before .before .before .before .before .before .before .before .before .before .before .before .before .before .before .before .before .before .before .before .before .before .before) .args .file .now))) ((c .before .before .before .before .before .before .before .before .before .before .before .before .before .before .before .before .before .before .before .before .before .before .before .before .before) .args .s) ((c .before .before .before .before .before .before .before .before .before .before .before .before .before .before .before .before .before .before .before .before .before .before .before .before .before) .pre .1 .1 .1 .0) ((c .before .before .before .before .before .before .before .before .before .before .before .before .before .before .before .before .before .before .before .before .before .before .before .before .before) .pre .1 .1 .1 .1 .2) ((c .before .before .before .before .before .before .before .before .before .before .before .before .before .before .before .before .before .before .before .before .work-node) .result) ((c .before .before .before .before .before .before .before .before .before .before .before .before .before .before .before .before .before .before .before .before .work-node) .ensures) ((c .before .before .before .before .before .before .before .before .before .before .before .before .before .before .before .before .before .before .before .size) .result) ((c .before .before .before .before .before .before .before .before .before .before .before .before .before .before .before .before .before .before .before .size) .ensures .0))) (behind-row (contextOf (read ((c .before .before .before .before .before .before .before .before .before .before .before .before .before .before .before .before .before .before .before .before .before .before .before .before .before) .args .file .now))) ((c .before .before .before .before .before .before .before .before .before .before .before .before .before .before .before .before .before .before .before .before .before .before .before .before .before) .args .s) ((c .before .before .before .before .before .before .before .before .before .before .before .before .before .before .before .before .before .before .before .before .before .before .before .before .before) .pre .1 .1 .1 .0) ((c .before .before .before .before .before .before .before .before .before .before .before .before .before .before .before .before .before .before .before .before .before .before .before .before .before) .pre .1 .1 .1 .1 .2) .0)) ((c .before .before .before .before .before .before .walk-list2) .ensures), (c .before .before .before .before .before .before .before .before .before .before .before .before .before .before .before .before .before .before .before .before .before .before .before .before .before) .good .1 .1 .0)
+behind-child-gathered-requires-4 : (t : ℕ) → behind-child-lts.Need-gathered-requires-4 (work-node-reads.Asked, work-node-reads.Learnt, link-plan-reads.Asked, link-plan-reads.Learnt, plan-behind-reads.Asked, plan-behind-reads.Learnt, is-passed-reads.Asked, is-passed-reads.Learnt, is-branches-reads.Asked, is-branches-reads.Learnt, walk-list-below t, walk-list.Post, either-reads.Asked, either-reads.Learnt, gathered-reads.Asked, gathered-reads.Learnt, of-answered-reads.Asked, of-answered-reads.Learnt, pass-row-reads.Asked, pass-row-reads.Learnt, stopped-reads.Asked, stopped-reads.Learnt, of-passed-reads.Asked, of-passed-reads.Learnt, next-plan-reads.Asked, next-plan-reads.Learnt) (behind-child-at t) behind-child.Post
+behind-child-gathered-requires-4 t c κs = omega (arith, behind-row (contextOf (read ((c .before .before .before .before .before .before .before .before .before .before .before .before .before .before .before .before .before .before .before .before) .args .file .now))) ((c .before .before .before .before .before .before .before .before .before .before .before .before .before .before .before .before .before .before .before .before) .args .s) ((c .before .before .before .before .before .before .before .before .before .before .before .before .before .before .before .before .before .before .before .before) .pre .1 .1 .1 .0) ((c .before .before .before .before .before .before .before .before .before .before .before .before .before .before .before .before .before .before .before .before) .pre .1 .1 .1 .1 .1) .2, behind-seen (contextOf (read ((c .before .before .before .before .before .before .before .before .before .before .before .before .before .before .before .before .before .before .before .before) .args .file .now))) ((c .before .before .before .before .before .before .before .before .before .before .before .before .before .before .before .before .before .before .before .before) .args .s) ((c .before .before .before .before .before .before .before .before .before .before .before .before .before .before .before .before .before .before .before .before) .pre .1 .1 .1 .0) ((c .before .before .before .before .before .before .before .before .before .before .before .before .before .before .before .before .before .before .before .before) .pre .1 .1 .1 .1 .1), row-looks-most (contextOf (read ((c .before .before .before .before .before .before .before .before .before .before .before .before .before .before .before .before .before .before .before .before) .args .file .now))) ((c .before .before .before .before .before .before .before .before .before .before .before .before .before .before .before .before .before .before .before .before) .args .s) ((c .before .before .before .before .before .before .before .before .next-plan) .result) ((c .before .before .before .before .before .before .before .before .before .before .before .before .before .before .before .before .before .before .before .before) .pre .1 .1 .1 .0) (behind-row (contextOf (read ((c .before .before .before .before .before .before .before .before .before .before .before .before .before .before .before .before .before .before .before .before) .args .file .now))) ((c .before .before .before .before .before .before .before .before .before .before .before .before .before .before .before .before .before .before .before .before) .args .s) ((c .before .before .before .before .before .before .before .before .before .before .before .before .before .before .before .before .before .before .before .before) .pre .1 .1 .1 .0) ((c .before .before .before .before .before .before .before .before .before .before .before .before .before .before .before .before .before .before .before .before) .pre .1 .1 .1 .1 .1) .0) ((c .before .before .before .before .before .before .walk-list2) .ensures), (c .before .before .before .before .before .before .before .before .before .before .before .before .before .before .before .before .before .before .before .before) .good .1 .1 .0)
 
-behind-child-is-passed-requires-2 : (t : ℕ) → behind-child-lts.Need-is-passed-requires-2 (work-node-reads.Asked, work-node-reads.Learnt, size-reads.Asked, size-reads.Learnt, link-plan-reads.Asked, link-plan-reads.Learnt, plan-behind-reads.Asked, plan-behind-reads.Learnt, is-passed-reads.Asked, is-passed-reads.Learnt, is-branches-reads.Asked, is-branches-reads.Learnt, walk-list-below t, walk-list.Post, either-reads.Asked, either-reads.Learnt, gathered-reads.Asked, gathered-reads.Learnt, of-answered-reads.Asked, of-answered-reads.Learnt, pass-row-reads.Asked, pass-row-reads.Learnt, stopped-reads.Asked, stopped-reads.Learnt, of-passed-reads.Asked, of-passed-reads.Learnt, next-plan-reads.Asked, next-plan-reads.Learnt) (behind-child-at t) behind-child.Post
+behind-child-is-passed-requires-2 : (t : ℕ) → behind-child-lts.Need-is-passed-requires-2 (work-node-reads.Asked, work-node-reads.Learnt, link-plan-reads.Asked, link-plan-reads.Learnt, plan-behind-reads.Asked, plan-behind-reads.Learnt, is-passed-reads.Asked, is-passed-reads.Learnt, is-branches-reads.Asked, is-branches-reads.Learnt, walk-list-below t, walk-list.Post, either-reads.Asked, either-reads.Learnt, gathered-reads.Asked, gathered-reads.Learnt, of-answered-reads.Asked, of-answered-reads.Learnt, pass-row-reads.Asked, pass-row-reads.Learnt, stopped-reads.Asked, stopped-reads.Learnt, of-passed-reads.Asked, of-passed-reads.Learnt, next-plan-reads.Asked, next-plan-reads.Learnt) (behind-child-at t) behind-child.Post
 behind-child-is-passed-requires-2 t c κs = tt
 
-behind-child-of-passed-requires-2 : (t : ℕ) → behind-child-lts.Need-of-passed-requires-2 (work-node-reads.Asked, work-node-reads.Learnt, size-reads.Asked, size-reads.Learnt, link-plan-reads.Asked, link-plan-reads.Learnt, plan-behind-reads.Asked, plan-behind-reads.Learnt, is-passed-reads.Asked, is-passed-reads.Learnt, is-branches-reads.Asked, is-branches-reads.Learnt, walk-list-below t, walk-list.Post, either-reads.Asked, either-reads.Learnt, gathered-reads.Asked, gathered-reads.Learnt, of-answered-reads.Asked, of-answered-reads.Learnt, pass-row-reads.Asked, pass-row-reads.Learnt, stopped-reads.Asked, stopped-reads.Learnt, of-passed-reads.Asked, of-passed-reads.Learnt, next-plan-reads.Asked, next-plan-reads.Learnt) (behind-child-at t) behind-child.Post
-behind-child-of-passed-requires-2 t c κs = let e : (c .before .before .gathered4) .result .looks ≡ (c .before .before .before .before .before .before .before .before .before .before .before .before .before .before .before .before .before .before .before .before .before .before .before .before .before .before .before .before) .args .b .looks + (c .before .before .before .before .before .before .before .before .before .before .before .before .before .before .before .before .before .before .before .before .before .before .before .before .before .before .before .before) .args .w .looks + (c .before .before .before .before .before .before .before .before .before .walk-list2) .result .looks = ap (λ x. x .looks) ((c .before .before .gathered4) .ensures) in ((c .before .before .before .before .before .before .before .before .before .before .before .before .before .before .before .before .before .before .before .before .before .before .before .before .before .before .before .before) .pre .1 .0, ((c .before .before .before .before .before .before .before .before .before .before .before .before .before .before .before .before .before .before .before .before .before .before .before .before .before .before .before .before) .pre .1 .1 .0, omega (arith, e, behind-row (contextOf (read ((c .before .before .before .before .before .before .before .before .before .before .before .before .before .before .before .before .before .before .before .before .before .before .before .before .before .before .before .before) .args .file .now))) ((c .before .before .before .before .before .before .before .before .before .before .before .before .before .before .before .before .before .before .before .before .before .before .before .before .before .before .before .before) .args .s) ((c .before .before .before .before .before .before .before .before .before .before .before .before .before .before .before .before .before .before .before .before .before .before .before .before .before .before .before .before) .pre .1 .1 .1 .0) ((c .before .before .before .before .before .before .before .before .before .before .before .before .before .before .before .before .before .before .before .before .before .before .before .before .before .before .before .before) .pre .1 .1 .1 .1 .2) .2, behind-seen (contextOf (read ((c .before .before .before .before .before .before .before .before .before .before .before .before .before .before .before .before .before .before .before .before .before .before .before .before .before .before .before .before) .args .file .now))) ((c .before .before .before .before .before .before .before .before .before .before .before .before .before .before .before .before .before .before .before .before .before .before .before .before .before .before .before .before) .args .s) ((c .before .before .before .before .before .before .before .before .before .before .before .before .before .before .before .before .before .before .before .before .before .before .before .before .before .before .before .before) .pre .1 .1 .1 .0) ((c .before .before .before .before .before .before .before .before .before .before .before .before .before .before .before .before .before .before .before .before .before .before .before .before .before .before .before .before) .pre .1 .1 .1 .1 .2), row-looks-most (contextOf (read ((c .before .before .before .before .before .before .before .before .before .before .before .before .before .before .before .before .before .before .before .before .before .before .before .before .before .before .before .before) .args .file .now))) ((c .before .before .before .before .before .before .before .before .before .before .before .before .before .before .before .before .before .before .before .before .before .before .before .before .before .before .before .before) .args .s) ((c .before .before .before .before .before .before .before .before .before .before .before .next-plan) .result) ((c .before .before .before .before .before .before .before .before .before .before .before .before .before .before .before .before .before .before .before .before .before .before .before .before .before .before .before .before) .pre .1 .1 .1 .0) (subst (SearchableRow ((c .before .before .before .before .before .before .before .before .before .before .before .before .before .before .before .before .before .before .before .before .before .before .before .before .before .before .before .before) .args .nodes .now) ((c .before .before .before .before .before .before .before .before .before .before .before .before .before .before .before .before .before .before .before .before .before .before .before .before .before .before .before .before) .args .w .next .0)) (sym (same-left (contextOf (read ((c .before .before .before .before .before .before .before .before .before .before .before .before .before .before .before .before .before .before .before .before .before .before .before .before .before .before .before .before) .args .file .now))) ((c .before .before .before .before .before .before .before .before .before .before .before .before .before .before .before .before .before .before .before .before .before .before .before .before .before .before .before .before) .args .s) ((c .before .before .before .before .before .before .before .before .before .before .before .before .before .before .before .before .before .before .before .before .before .before .before .before .before .before .before .before) .pre .1 .1 .1 .0) ((c .before .before .before .before .before .before .before .before .before .before .before .before .before .before .before .before .before .before .before .before .before .before .before .before .before .before .before .before) .pre .1 .1 .1 .1 .2) ((c .before .before .before .before .before .before .before .before .before .before .before .before .before .before .before .before .before .before .before .before .before .before .before .work-node) .result) ((c .before .before .before .before .before .before .before .before .before .before .before .before .before .before .before .before .before .before .before .before .before .before .before .work-node) .ensures) ((c .before .before .before .before .before .before .before .before .before .before .before .before .before .before .before .before .before .before .before .before .before .before .size) .result) ((c .before .before .before .before .before .before .before .before .before .before .before .before .before .before .before .before .before .before .before .before .before .before .size) .ensures .0))) (behind-row (contextOf (read ((c .before .before .before .before .before .before .before .before .before .before .before .before .before .before .before .before .before .before .before .before .before .before .before .before .before .before .before .before) .args .file .now))) ((c .before .before .before .before .before .before .before .before .before .before .before .before .before .before .before .before .before .before .before .before .before .before .before .before .before .before .before .before) .args .s) ((c .before .before .before .before .before .before .before .before .before .before .before .before .before .before .before .before .before .before .before .before .before .before .before .before .before .before .before .before) .pre .1 .1 .1 .0) ((c .before .before .before .before .before .before .before .before .before .before .before .before .before .before .before .before .before .before .before .before .before .before .before .before .before .before .before .before) .pre .1 .1 .1 .1 .2) .0)) ((c .before .before .before .before .before .before .before .before .before .walk-list2) .ensures), (c .before .before .before .before .before .before .before .before .before .before .before .before .before .before .before .before .before .before .before .before .before .before .before .before .before .before .before .before) .good .1 .1 .0)))
+behind-child-of-passed-requires-2 : (t : ℕ) → behind-child-lts.Need-of-passed-requires-2 (work-node-reads.Asked, work-node-reads.Learnt, link-plan-reads.Asked, link-plan-reads.Learnt, plan-behind-reads.Asked, plan-behind-reads.Learnt, is-passed-reads.Asked, is-passed-reads.Learnt, is-branches-reads.Asked, is-branches-reads.Learnt, walk-list-below t, walk-list.Post, either-reads.Asked, either-reads.Learnt, gathered-reads.Asked, gathered-reads.Learnt, of-answered-reads.Asked, of-answered-reads.Learnt, pass-row-reads.Asked, pass-row-reads.Learnt, stopped-reads.Asked, stopped-reads.Learnt, of-passed-reads.Asked, of-passed-reads.Learnt, next-plan-reads.Asked, next-plan-reads.Learnt) (behind-child-at t) behind-child.Post
+behind-child-of-passed-requires-2 t c κs = let e : (c .before .before .gathered4) .result .looks ≡ (c .before .before .before .before .before .before .before .before .before .before .before .before .before .before .before .before .before .before .before .before .before .before .before) .args .b .looks + (c .before .before .before .before .before .before .before .before .before .before .before .before .before .before .before .before .before .before .before .before .before .before .before) .args .w .looks + (c .before .before .before .before .before .before .before .before .before .walk-list2) .result .looks = ap (λ x. x .looks) ((c .before .before .gathered4) .ensures) in ((c .before .before .before .before .before .before .before .before .before .before .before .before .before .before .before .before .before .before .before .before .before .before .before) .pre .1 .0, ((c .before .before .before .before .before .before .before .before .before .before .before .before .before .before .before .before .before .before .before .before .before .before .before) .pre .1 .1 .0, omega (arith, e, behind-row (contextOf (read ((c .before .before .before .before .before .before .before .before .before .before .before .before .before .before .before .before .before .before .before .before .before .before .before) .args .file .now))) ((c .before .before .before .before .before .before .before .before .before .before .before .before .before .before .before .before .before .before .before .before .before .before .before) .args .s) ((c .before .before .before .before .before .before .before .before .before .before .before .before .before .before .before .before .before .before .before .before .before .before .before) .pre .1 .1 .1 .0) ((c .before .before .before .before .before .before .before .before .before .before .before .before .before .before .before .before .before .before .before .before .before .before .before) .pre .1 .1 .1 .1 .1) .2, behind-seen (contextOf (read ((c .before .before .before .before .before .before .before .before .before .before .before .before .before .before .before .before .before .before .before .before .before .before .before) .args .file .now))) ((c .before .before .before .before .before .before .before .before .before .before .before .before .before .before .before .before .before .before .before .before .before .before .before) .args .s) ((c .before .before .before .before .before .before .before .before .before .before .before .before .before .before .before .before .before .before .before .before .before .before .before) .pre .1 .1 .1 .0) ((c .before .before .before .before .before .before .before .before .before .before .before .before .before .before .before .before .before .before .before .before .before .before .before) .pre .1 .1 .1 .1 .1), row-looks-most (contextOf (read ((c .before .before .before .before .before .before .before .before .before .before .before .before .before .before .before .before .before .before .before .before .before .before .before) .args .file .now))) ((c .before .before .before .before .before .before .before .before .before .before .before .before .before .before .before .before .before .before .before .before .before .before .before) .args .s) ((c .before .before .before .before .before .before .before .before .before .before .before .next-plan) .result) ((c .before .before .before .before .before .before .before .before .before .before .before .before .before .before .before .before .before .before .before .before .before .before .before) .pre .1 .1 .1 .0) (behind-row (contextOf (read ((c .before .before .before .before .before .before .before .before .before .before .before .before .before .before .before .before .before .before .before .before .before .before .before) .args .file .now))) ((c .before .before .before .before .before .before .before .before .before .before .before .before .before .before .before .before .before .before .before .before .before .before .before) .args .s) ((c .before .before .before .before .before .before .before .before .before .before .before .before .before .before .before .before .before .before .before .before .before .before .before) .pre .1 .1 .1 .0) ((c .before .before .before .before .before .before .before .before .before .before .before .before .before .before .before .before .before .before .before .before .before .before .before) .pre .1 .1 .1 .1 .1) .0) ((c .before .before .before .before .before .before .before .before .before .walk-list2) .ensures), (c .before .before .before .before .before .before .before .before .before .before .before .before .before .before .before .before .before .before .before .before .before .before .before) .good .1 .1 .0)))
 
-behind-child-same-length-4 : (t : ℕ) → behind-child-lts.Need-same-length-4 (work-node-reads.Asked, work-node-reads.Learnt, size-reads.Asked, size-reads.Learnt, link-plan-reads.Asked, link-plan-reads.Learnt, plan-behind-reads.Asked, plan-behind-reads.Learnt, is-passed-reads.Asked, is-passed-reads.Learnt, is-branches-reads.Asked, is-branches-reads.Learnt, walk-list-below t, walk-list.Post, either-reads.Asked, either-reads.Learnt, gathered-reads.Asked, gathered-reads.Learnt, of-answered-reads.Asked, of-answered-reads.Learnt, pass-row-reads.Asked, pass-row-reads.Learnt, stopped-reads.Asked, stopped-reads.Learnt, of-passed-reads.Asked, of-passed-reads.Learnt, next-plan-reads.Asked, next-plan-reads.Learnt) (behind-child-at t) behind-child.Post
+behind-child-same-length-4 : (t : ℕ) → behind-child-lts.Need-same-length-4 (work-node-reads.Asked, work-node-reads.Learnt, link-plan-reads.Asked, link-plan-reads.Learnt, plan-behind-reads.Asked, plan-behind-reads.Learnt, is-passed-reads.Asked, is-passed-reads.Learnt, is-branches-reads.Asked, is-branches-reads.Learnt, walk-list-below t, walk-list.Post, either-reads.Asked, either-reads.Learnt, gathered-reads.Asked, gathered-reads.Learnt, of-answered-reads.Asked, of-answered-reads.Learnt, pass-row-reads.Asked, pass-row-reads.Learnt, stopped-reads.Asked, stopped-reads.Learnt, of-passed-reads.Asked, of-passed-reads.Learnt, next-plan-reads.Asked, next-plan-reads.Learnt) (behind-child-at t) behind-child.Post
 behind-child-same-length-4 t c = search needs
 
-behind-child-returns-4 : (t : ℕ) → behind-child-lts.Need-returns-4 (work-node-reads.Asked, work-node-reads.Learnt, size-reads.Asked, size-reads.Learnt, link-plan-reads.Asked, link-plan-reads.Learnt, plan-behind-reads.Asked, plan-behind-reads.Learnt, is-passed-reads.Asked, is-passed-reads.Learnt, is-branches-reads.Asked, is-branches-reads.Learnt, walk-list-below t, walk-list.Post, either-reads.Asked, either-reads.Learnt, gathered-reads.Asked, gathered-reads.Learnt, of-answered-reads.Asked, of-answered-reads.Learnt, pass-row-reads.Asked, pass-row-reads.Learnt, stopped-reads.Asked, stopped-reads.Learnt, of-passed-reads.Asked, of-passed-reads.Learnt, next-plan-reads.Asked, next-plan-reads.Learnt) (behind-child-at t) behind-child.Post
-behind-child-returns-4 t c = λ table₀ left g. child-behind (contextOf (read ((c .before .before .before .before .before .before .before .before .before .before .before .before .before .before .before .before .before .before .before .before .before .before .before .before .before .before .before .before .before) .args .file .now))) ((c .before .before .before .before .before .before .before .before .before .before .before .before .before .before .before .before .before .before .before .before .before .before .before .before .before .before .before .before .before) .args .s) ((c .before .before .before .before .before .before .before .before .before .before .before .before .before .before .before .before .before .before .before .before .before .before .before .before .before .before .before .before .before) .pre .1 .1 .1 .0) g ((c .before .before .before .before .before .before .before .before .before .before .before .before .before .before .before .before .before .before .before .before .before .before .before .before .work-node) .result) ((c .before .before .before .before .before .before .before .before .before .before .before .before .before .before .before .before .before .before .before .before .before .before .before .before .work-node) .ensures) (row-all (contextOf (read ((c .before .before .before .before .before .before .before .before .before .before .before .before .before .before .before .before .before .before .before .before .before .before .before .before .before .before .before .before .before) .args .file .now))) ((c .before .before .before .before .before .before .before .before .before .before .before .before .before .before .before .before .before .before .before .before .before .before .before .before .before .before .before .before .before) .args .s) ((c .before .before .before .before .before .before .before .before .before .before .before .before .before .before .before .before .before .before .before .before .before .before .before .before .before .before .before .before .before) .pre .1 .1 .1 .0) g ((c .before .before .before .before .before .before .before .before .before .before .before .before .before .before .before .before .before .plan-behind) .result) ((c .before .before .before .before .before .before .before .before .before .before .before .before .before .before .before .before .before .plan-behind) .ensures ∙ ap (λ p. planBehind p ((c .before .before .before .before .before .before .before .before .before .before .before .before .before .before .before .before .before .before .before .before .before .before .before .before .before .before .before .before .before) .args .child .0 - (c .before .before .before .before .before .before .before .before .before .before .before .before .before .before .before .before .before .before .before .before .before .before .before .before .before .before .before .before .before) .args .b .link .0 - 1)) ((c .before .before .before .before .before .before .before .before .before .before .before .before .before .before .before .before .before .before .before .before .link-plan) .ensures) ∙ plan-was (contextOf (read ((c .before .before .before .before .before .before .before .before .before .before .before .before .before .before .before .before .before .before .before .before .before .before .before .before .before .before .before .before .before) .args .file .now))) ((c .before .before .before .before .before .before .before .before .before .before .before .before .before .before .before .before .before .before .before .before .before .before .before .before .before .before .before .before .before) .args .s) ((c .before .before .before .before .before .before .before .before .before .before .before .before .before .before .before .before .before .before .before .before .before .before .before .before .before .before .before .before .before) .pre .1 .1 .1 .0) g ((c .before .before .before .before .before .before .before .before .before .before .before .before .before .before .before .before .before .before .before .before .before .before .before .before .work-node) .result) ((c .before .before .before .before .before .before .before .before .before .before .before .before .before .before .before .before .before .before .before .before .before .before .before .before .work-node) .ensures)) ((c .before .before .before .before .before .before .before .before .before .before .before .before .before .before .before .before .before .before .before .before .before .before .before .size) .result + (c .before .before .before .before .before .before .before .before .before .before .before .before .before .before .before .before .before .before .before .before .before .before .before .before .before .before .before .before .before) .args .b .link .0 - (c .before .before .before .before .before .before .before .before .before .before .before .before .before .before .before .before .before .before .before .before .before .before .before .before .before .before .before .before .before) .args .child .0) (same-left (contextOf (read ((c .before .before .before .before .before .before .before .before .before .before .before .before .before .before .before .before .before .before .before .before .before .before .before .before .before .before .before .before .before) .args .file .now))) ((c .before .before .before .before .before .before .before .before .before .before .before .before .before .before .before .before .before .before .before .before .before .before .before .before .before .before .before .before .before) .args .s) ((c .before .before .before .before .before .before .before .before .before .before .before .before .before .before .before .before .before .before .before .before .before .before .before .before .before .before .before .before .before) .pre .1 .1 .1 .0) g ((c .before .before .before .before .before .before .before .before .before .before .before .before .before .before .before .before .before .before .before .before .before .before .before .before .work-node) .result) ((c .before .before .before .before .before .before .before .before .before .before .before .before .before .before .before .before .before .before .before .before .before .before .before .before .work-node) .ensures) ((c .before .before .before .before .before .before .before .before .before .before .before .before .before .before .before .before .before .before .before .before .before .before .before .size) .result) ((c .before .before .before .before .before .before .before .before .before .before .before .before .before .before .before .before .before .before .before .before .before .before .before .size) .ensures .0)) ((c .before .before .before .before .before .before .before .before .before .before .before .before .next-plan) .result) (sym ((c .before .before .before .before .before .before .before .before .before .before .before .before .before .before .before .is-passed) .ensures) ∙ not-false ((c .before .before .before .before .before .before .before .before .before .before .before .before .before .before .before .is-passed) .result) ((c .before .before .before .before .before .before .before .before .before .before .before .before .before .before .if1) .left)) ((c .before .before .before .before .before .before .before .before .before .before .before .before .next-plan) .ensures) ((c .before .before .before .before .before .before .before .before .before .before .walk-list2) .ensures) ((c .before .before .before .gathered4) .ensures)) ((c .of-passed2) .ensures (ap (λ x. isPassed (x .answer)) ((c .before .before .before .gathered4) .ensures) ∙ sym ((c .before .before .is-passed2) .ensures) ∙ (c .before .if4) .taken) _ _)
+behind-child-returns-4 : (t : ℕ) → behind-child-lts.Need-returns-4 (work-node-reads.Asked, work-node-reads.Learnt, link-plan-reads.Asked, link-plan-reads.Learnt, plan-behind-reads.Asked, plan-behind-reads.Learnt, is-passed-reads.Asked, is-passed-reads.Learnt, is-branches-reads.Asked, is-branches-reads.Learnt, walk-list-below t, walk-list.Post, either-reads.Asked, either-reads.Learnt, gathered-reads.Asked, gathered-reads.Learnt, of-answered-reads.Asked, of-answered-reads.Learnt, pass-row-reads.Asked, pass-row-reads.Learnt, stopped-reads.Asked, stopped-reads.Learnt, of-passed-reads.Asked, of-passed-reads.Learnt, next-plan-reads.Asked, next-plan-reads.Learnt) (behind-child-at t) behind-child.Post
+behind-child-returns-4 t c = λ table₀ g. child-behind (contextOf (read ((c .before .before .before .before .before .before .before .before .before .before .before .before .before .before .before .before .before .before .before .before .before .before .before .before) .args .file .now))) ((c .before .before .before .before .before .before .before .before .before .before .before .before .before .before .before .before .before .before .before .before .before .before .before .before) .args .s) ((c .before .before .before .before .before .before .before .before .before .before .before .before .before .before .before .before .before .before .before .before .before .before .before .before) .pre .1 .1 .1 .0) g ((c .before .before .before .before .before .before .before .before .before .before .before .before .before .before .before .before .before .before .before .work-node) .result) ((c .before .before .before .before .before .before .before .before .before .before .before .before .before .before .before .before .before .before .before .work-node) .ensures) (row-all (contextOf (read ((c .before .before .before .before .before .before .before .before .before .before .before .before .before .before .before .before .before .before .before .before .before .before .before .before) .args .file .now))) ((c .before .before .before .before .before .before .before .before .before .before .before .before .before .before .before .before .before .before .before .before .before .before .before .before) .args .s) ((c .before .before .before .before .before .before .before .before .before .before .before .before .before .before .before .before .before .before .before .before .before .before .before .before) .pre .1 .1 .1 .0) g ((c .before .before .before .before .before .before .before .before .before .before .before .before .before .before .before .before .before .plan-behind) .result) ((c .before .before .before .before .before .before .before .before .before .before .before .before .before .before .before .before .before .plan-behind) .ensures ∙ ap (λ p. planBehind p ((c .before .before .before .before .before .before .before .before .before .before .before .before .before .before .before .before .before .before .before .before .before .before .before .before) .args .b .before)) ((c .before .before .before .before .before .before .before .before .before .before .before .before .before .before .before .before .before .before .link-plan) .ensures) ∙ plan-was (contextOf (read ((c .before .before .before .before .before .before .before .before .before .before .before .before .before .before .before .before .before .before .before .before .before .before .before .before) .args .file .now))) ((c .before .before .before .before .before .before .before .before .before .before .before .before .before .before .before .before .before .before .before .before .before .before .before .before) .args .s) ((c .before .before .before .before .before .before .before .before .before .before .before .before .before .before .before .before .before .before .before .before .before .before .before .before) .pre .1 .1 .1 .0) g ((c .before .before .before .before .before .before .before .before .before .before .before .before .before .before .before .before .before .before .before .work-node) .result) ((c .before .before .before .before .before .before .before .before .before .before .before .before .before .before .before .before .before .before .before .work-node) .ensures)) ((c .before .before .before .before .before .before .before .before .before .before .before .before .next-plan) .result) (sym ((c .before .before .before .before .before .before .before .before .before .before .before .before .before .before .before .is-passed) .ensures) ∙ not-false ((c .before .before .before .before .before .before .before .before .before .before .before .before .before .before .before .is-passed) .result) ((c .before .before .before .before .before .before .before .before .before .before .before .before .before .before .if1) .left)) ((c .before .before .before .before .before .before .before .before .before .before .before .before .next-plan) .ensures) ((c .before .before .before .before .before .before .before .before .before .before .walk-list2) .ensures) ((c .before .before .before .gathered4) .ensures)) ((c .of-passed2) .ensures (ap (λ x. isPassed (x .answer)) ((c .before .before .before .gathered4) .ensures) ∙ sym ((c .before .before .is-passed2) .ensures) ∙ (c .before .if4) .taken) _ _)
 
-behind-child-of-answered-requires-3 : (t : ℕ) → behind-child-lts.Need-of-answered-requires-3 (work-node-reads.Asked, work-node-reads.Learnt, size-reads.Asked, size-reads.Learnt, link-plan-reads.Asked, link-plan-reads.Learnt, plan-behind-reads.Asked, plan-behind-reads.Learnt, is-passed-reads.Asked, is-passed-reads.Learnt, is-branches-reads.Asked, is-branches-reads.Learnt, walk-list-below t, walk-list.Post, either-reads.Asked, either-reads.Learnt, gathered-reads.Asked, gathered-reads.Learnt, of-answered-reads.Asked, of-answered-reads.Learnt, pass-row-reads.Asked, pass-row-reads.Learnt, stopped-reads.Asked, stopped-reads.Learnt, of-passed-reads.Asked, of-passed-reads.Learnt, next-plan-reads.Asked, next-plan-reads.Learnt) (behind-child-at t) behind-child.Post
-behind-child-of-answered-requires-3 t c κs = let e : (c .before .before .before .gathered4) .result .looks ≡ (c .before .before .before .before .before .before .before .before .before .before .before .before .before .before .before .before .before .before .before .before .before .before .before .before .before .before .before .before .before) .args .b .looks + (c .before .before .before .before .before .before .before .before .before .before .before .before .before .before .before .before .before .before .before .before .before .before .before .before .before .before .before .before .before) .args .w .looks + (c .before .before .before .before .before .before .before .before .before .before .walk-list2) .result .looks = ap (λ x. x .looks) ((c .before .before .before .gathered4) .ensures) in (omega (arith, behind-room (contextOf (read ((c .before .before .before .before .before .before .before .before .before .before .before .before .before .before .before .before .before .before .before .before .before .before .before .before .before .before .before .before .before) .args .file .now))) ((c .before .before .before .before .before .before .before .before .before .before .before .before .before .before .before .before .before .before .before .before .before .before .before .before .before .before .before .before .before) .args .s) ((c .before .before .before .before .before .before .before .before .before .before .before .before .before .before .before .before .before .before .before .before .before .before .before .before .before .before .before .before .before) .pre .1 .1 .1 .0) ((c .before .before .before .before .before .before .before .before .before .before .before .before .before .before .before .before .before .before .before .before .before .before .before .before .before .before .before .before .before) .pre .1 .1 .1 .1 .2), (c .before .before .before .before .before .before .before .before .before .before .walk-list2) .kept .1 .1 .0), omega (arith, e, behind-row (contextOf (read ((c .before .before .before .before .before .before .before .before .before .before .before .before .before .before .before .before .before .before .before .before .before .before .before .before .before .before .before .before .before) .args .file .now))) ((c .before .before .before .before .before .before .before .before .before .before .before .before .before .before .before .before .before .before .before .before .before .before .before .before .before .before .before .before .before) .args .s) ((c .before .before .before .before .before .before .before .before .before .before .before .before .before .before .before .before .before .before .before .before .before .before .before .before .before .before .before .before .before) .pre .1 .1 .1 .0) ((c .before .before .before .before .before .before .before .before .before .before .before .before .before .before .before .before .before .before .before .before .before .before .before .before .before .before .before .before .before) .pre .1 .1 .1 .1 .2) .2, behind-seen (contextOf (read ((c .before .before .before .before .before .before .before .before .before .before .before .before .before .before .before .before .before .before .before .before .before .before .before .before .before .before .before .before .before) .args .file .now))) ((c .before .before .before .before .before .before .before .before .before .before .before .before .before .before .before .before .before .before .before .before .before .before .before .before .before .before .before .before .before) .args .s) ((c .before .before .before .before .before .before .before .before .before .before .before .before .before .before .before .before .before .before .before .before .before .before .before .before .before .before .before .before .before) .pre .1 .1 .1 .0) ((c .before .before .before .before .before .before .before .before .before .before .before .before .before .before .before .before .before .before .before .before .before .before .before .before .before .before .before .before .before) .pre .1 .1 .1 .1 .2), row-looks-most (contextOf (read ((c .before .before .before .before .before .before .before .before .before .before .before .before .before .before .before .before .before .before .before .before .before .before .before .before .before .before .before .before .before) .args .file .now))) ((c .before .before .before .before .before .before .before .before .before .before .before .before .before .before .before .before .before .before .before .before .before .before .before .before .before .before .before .before .before) .args .s) ((c .before .before .before .before .before .before .before .before .before .before .before .before .next-plan) .result) ((c .before .before .before .before .before .before .before .before .before .before .before .before .before .before .before .before .before .before .before .before .before .before .before .before .before .before .before .before .before) .pre .1 .1 .1 .0) (subst (SearchableRow ((c .before .before .before .before .before .before .before .before .before .before .before .before .before .before .before .before .before .before .before .before .before .before .before .before .before .before .before .before .before) .args .nodes .now) ((c .before .before .before .before .before .before .before .before .before .before .before .before .before .before .before .before .before .before .before .before .before .before .before .before .before .before .before .before .before) .args .w .next .0)) (sym (same-left (contextOf (read ((c .before .before .before .before .before .before .before .before .before .before .before .before .before .before .before .before .before .before .before .before .before .before .before .before .before .before .before .before .before) .args .file .now))) ((c .before .before .before .before .before .before .before .before .before .before .before .before .before .before .before .before .before .before .before .before .before .before .before .before .before .before .before .before .before) .args .s) ((c .before .before .before .before .before .before .before .before .before .before .before .before .before .before .before .before .before .before .before .before .before .before .before .before .before .before .before .before .before) .pre .1 .1 .1 .0) ((c .before .before .before .before .before .before .before .before .before .before .before .before .before .before .before .before .before .before .before .before .before .before .before .before .before .before .before .before .before) .pre .1 .1 .1 .1 .2) ((c .before .before .before .before .before .before .before .before .before .before .before .before .before .before .before .before .before .before .before .before .before .before .before .before .work-node) .result) ((c .before .before .before .before .before .before .before .before .before .before .before .before .before .before .before .before .before .before .before .before .before .before .before .before .work-node) .ensures) ((c .before .before .before .before .before .before .before .before .before .before .before .before .before .before .before .before .before .before .before .before .before .before .before .size) .result) ((c .before .before .before .before .before .before .before .before .before .before .before .before .before .before .before .before .before .before .before .before .before .before .before .size) .ensures .0))) (behind-row (contextOf (read ((c .before .before .before .before .before .before .before .before .before .before .before .before .before .before .before .before .before .before .before .before .before .before .before .before .before .before .before .before .before) .args .file .now))) ((c .before .before .before .before .before .before .before .before .before .before .before .before .before .before .before .before .before .before .before .before .before .before .before .before .before .before .before .before .before) .args .s) ((c .before .before .before .before .before .before .before .before .before .before .before .before .before .before .before .before .before .before .before .before .before .before .before .before .before .before .before .before .before) .pre .1 .1 .1 .0) ((c .before .before .before .before .before .before .before .before .before .before .before .before .before .before .before .before .before .before .before .before .before .before .before .before .before .before .before .before .before) .pre .1 .1 .1 .1 .2) .0)) ((c .before .before .before .before .before .before .before .before .before .before .walk-list2) .ensures), (c .before .before .before .before .before .before .before .before .before .before .before .before .before .before .before .before .before .before .before .before .before .before .before .before .before .before .before .before .before) .good .1 .1 .0))
+behind-child-of-answered-requires-3 : (t : ℕ) → behind-child-lts.Need-of-answered-requires-3 (work-node-reads.Asked, work-node-reads.Learnt, link-plan-reads.Asked, link-plan-reads.Learnt, plan-behind-reads.Asked, plan-behind-reads.Learnt, is-passed-reads.Asked, is-passed-reads.Learnt, is-branches-reads.Asked, is-branches-reads.Learnt, walk-list-below t, walk-list.Post, either-reads.Asked, either-reads.Learnt, gathered-reads.Asked, gathered-reads.Learnt, of-answered-reads.Asked, of-answered-reads.Learnt, pass-row-reads.Asked, pass-row-reads.Learnt, stopped-reads.Asked, stopped-reads.Learnt, of-passed-reads.Asked, of-passed-reads.Learnt, next-plan-reads.Asked, next-plan-reads.Learnt) (behind-child-at t) behind-child.Post
+behind-child-of-answered-requires-3 t c κs = let e : (c .before .before .before .gathered4) .result .looks ≡ (c .before .before .before .before .before .before .before .before .before .before .before .before .before .before .before .before .before .before .before .before .before .before .before .before) .args .b .looks + (c .before .before .before .before .before .before .before .before .before .before .before .before .before .before .before .before .before .before .before .before .before .before .before .before) .args .w .looks + (c .before .before .before .before .before .before .before .before .before .before .walk-list2) .result .looks = ap (λ x. x .looks) ((c .before .before .before .gathered4) .ensures) in (omega (arith, behind-room (contextOf (read ((c .before .before .before .before .before .before .before .before .before .before .before .before .before .before .before .before .before .before .before .before .before .before .before .before) .args .file .now))) ((c .before .before .before .before .before .before .before .before .before .before .before .before .before .before .before .before .before .before .before .before .before .before .before .before) .args .s) ((c .before .before .before .before .before .before .before .before .before .before .before .before .before .before .before .before .before .before .before .before .before .before .before .before) .pre .1 .1 .1 .0) ((c .before .before .before .before .before .before .before .before .before .before .before .before .before .before .before .before .before .before .before .before .before .before .before .before) .pre .1 .1 .1 .1 .1), (c .before .before .before .before .before .before .before .before .before .before .walk-list2) .kept .1 .1 .0), omega (arith, e, behind-row (contextOf (read ((c .before .before .before .before .before .before .before .before .before .before .before .before .before .before .before .before .before .before .before .before .before .before .before .before) .args .file .now))) ((c .before .before .before .before .before .before .before .before .before .before .before .before .before .before .before .before .before .before .before .before .before .before .before .before) .args .s) ((c .before .before .before .before .before .before .before .before .before .before .before .before .before .before .before .before .before .before .before .before .before .before .before .before) .pre .1 .1 .1 .0) ((c .before .before .before .before .before .before .before .before .before .before .before .before .before .before .before .before .before .before .before .before .before .before .before .before) .pre .1 .1 .1 .1 .1) .2, behind-seen (contextOf (read ((c .before .before .before .before .before .before .before .before .before .before .before .before .before .before .before .before .before .before .before .before .before .before .before .before) .args .file .now))) ((c .before .before .before .before .before .before .before .before .before .before .before .before .before .before .before .before .before .before .before .before .before .before .before .before) .args .s) ((c .before .before .before .before .before .before .before .before .before .before .before .before .before .before .before .before .before .before .before .before .before .before .before .before) .pre .1 .1 .1 .0) ((c .before .before .before .before .before .before .before .before .before .before .before .before .before .before .before .before .before .before .before .before .before .before .before .before) .pre .1 .1 .1 .1 .1), row-looks-most (contextOf (read ((c .before .before .before .before .before .before .before .before .before .before .before .before .before .before .before .before .before .before .before .before .before .before .before .before) .args .file .now))) ((c .before .before .before .before .before .before .before .before .before .before .before .before .before .before .before .before .before .before .before .before .before .before .before .before) .args .s) ((c .before .before .before .before .before .before .before .before .before .before .before .before .next-plan) .result) ((c .before .before .before .before .before .before .before .before .before .before .before .before .before .before .before .before .before .before .before .before .before .before .before .before) .pre .1 .1 .1 .0) (behind-row (contextOf (read ((c .before .before .before .before .before .before .before .before .before .before .before .before .before .before .before .before .before .before .before .before .before .before .before .before) .args .file .now))) ((c .before .before .before .before .before .before .before .before .before .before .before .before .before .before .before .before .before .before .before .before .before .before .before .before) .args .s) ((c .before .before .before .before .before .before .before .before .before .before .before .before .before .before .before .before .before .before .before .before .before .before .before .before) .pre .1 .1 .1 .0) ((c .before .before .before .before .before .before .before .before .before .before .before .before .before .before .before .before .before .before .before .before .before .before .before .before) .pre .1 .1 .1 .1 .1) .0) ((c .before .before .before .before .before .before .before .before .before .before .walk-list2) .ensures), (c .before .before .before .before .before .before .before .before .before .before .before .before .before .before .before .before .before .before .before .before .before .before .before .before) .good .1 .1 .0))
 
-behind-child-same-length-5 : (t : ℕ) → behind-child-lts.Need-same-length-5 (work-node-reads.Asked, work-node-reads.Learnt, size-reads.Asked, size-reads.Learnt, link-plan-reads.Asked, link-plan-reads.Learnt, plan-behind-reads.Asked, plan-behind-reads.Learnt, is-passed-reads.Asked, is-passed-reads.Learnt, is-branches-reads.Asked, is-branches-reads.Learnt, walk-list-below t, walk-list.Post, either-reads.Asked, either-reads.Learnt, gathered-reads.Asked, gathered-reads.Learnt, of-answered-reads.Asked, of-answered-reads.Learnt, pass-row-reads.Asked, pass-row-reads.Learnt, stopped-reads.Asked, stopped-reads.Learnt, of-passed-reads.Asked, of-passed-reads.Learnt, next-plan-reads.Asked, next-plan-reads.Learnt) (behind-child-at t) behind-child.Post
+behind-child-same-length-5 : (t : ℕ) → behind-child-lts.Need-same-length-5 (work-node-reads.Asked, work-node-reads.Learnt, link-plan-reads.Asked, link-plan-reads.Learnt, plan-behind-reads.Asked, plan-behind-reads.Learnt, is-passed-reads.Asked, is-passed-reads.Learnt, is-branches-reads.Asked, is-branches-reads.Learnt, walk-list-below t, walk-list.Post, either-reads.Asked, either-reads.Learnt, gathered-reads.Asked, gathered-reads.Learnt, of-answered-reads.Asked, of-answered-reads.Learnt, pass-row-reads.Asked, pass-row-reads.Learnt, stopped-reads.Asked, stopped-reads.Learnt, of-passed-reads.Asked, of-passed-reads.Learnt, next-plan-reads.Asked, next-plan-reads.Learnt) (behind-child-at t) behind-child.Post
 behind-child-same-length-5 t c = search needs
 
-behind-child-returns-5 : (t : ℕ) → behind-child-lts.Need-returns-5 (work-node-reads.Asked, work-node-reads.Learnt, size-reads.Asked, size-reads.Learnt, link-plan-reads.Asked, link-plan-reads.Learnt, plan-behind-reads.Asked, plan-behind-reads.Learnt, is-passed-reads.Asked, is-passed-reads.Learnt, is-branches-reads.Asked, is-branches-reads.Learnt, walk-list-below t, walk-list.Post, either-reads.Asked, either-reads.Learnt, gathered-reads.Asked, gathered-reads.Learnt, of-answered-reads.Asked, of-answered-reads.Learnt, pass-row-reads.Asked, pass-row-reads.Learnt, stopped-reads.Asked, stopped-reads.Learnt, of-passed-reads.Asked, of-passed-reads.Learnt, next-plan-reads.Asked, next-plan-reads.Learnt) (behind-child-at t) behind-child.Post
-behind-child-returns-5 t c = λ table₀ left g. child-behind (contextOf (read ((c .before .before .before .before .before .before .before .before .before .before .before .before .before .before .before .before .before .before .before .before .before .before .before .before .before .before .before .before .before .before .before .before) .args .file .now))) ((c .before .before .before .before .before .before .before .before .before .before .before .before .before .before .before .before .before .before .before .before .before .before .before .before .before .before .before .before .before .before .before .before) .args .s) ((c .before .before .before .before .before .before .before .before .before .before .before .before .before .before .before .before .before .before .before .before .before .before .before .before .before .before .before .before .before .before .before .before) .pre .1 .1 .1 .0) g ((c .before .before .before .before .before .before .before .before .before .before .before .before .before .before .before .before .before .before .before .before .before .before .before .before .before .before .before .work-node) .result) ((c .before .before .before .before .before .before .before .before .before .before .before .before .before .before .before .before .before .before .before .before .before .before .before .before .before .before .before .work-node) .ensures) (row-all (contextOf (read ((c .before .before .before .before .before .before .before .before .before .before .before .before .before .before .before .before .before .before .before .before .before .before .before .before .before .before .before .before .before .before .before .before) .args .file .now))) ((c .before .before .before .before .before .before .before .before .before .before .before .before .before .before .before .before .before .before .before .before .before .before .before .before .before .before .before .before .before .before .before .before) .args .s) ((c .before .before .before .before .before .before .before .before .before .before .before .before .before .before .before .before .before .before .before .before .before .before .before .before .before .before .before .before .before .before .before .before) .pre .1 .1 .1 .0) g ((c .before .before .before .before .before .before .before .before .before .before .before .before .before .before .before .before .before .before .before .before .plan-behind) .result) ((c .before .before .before .before .before .before .before .before .before .before .before .before .before .before .before .before .before .before .before .before .plan-behind) .ensures ∙ ap (λ p. planBehind p ((c .before .before .before .before .before .before .before .before .before .before .before .before .before .before .before .before .before .before .before .before .before .before .before .before .before .before .before .before .before .before .before .before) .args .child .0 - (c .before .before .before .before .before .before .before .before .before .before .before .before .before .before .before .before .before .before .before .before .before .before .before .before .before .before .before .before .before .before .before .before) .args .b .link .0 - 1)) ((c .before .before .before .before .before .before .before .before .before .before .before .before .before .before .before .before .before .before .before .before .before .before .before .link-plan) .ensures) ∙ plan-was (contextOf (read ((c .before .before .before .before .before .before .before .before .before .before .before .before .before .before .before .before .before .before .before .before .before .before .before .before .before .before .before .before .before .before .before .before) .args .file .now))) ((c .before .before .before .before .before .before .before .before .before .before .before .before .before .before .before .before .before .before .before .before .before .before .before .before .before .before .before .before .before .before .before .before) .args .s) ((c .before .before .before .before .before .before .before .before .before .before .before .before .before .before .before .before .before .before .before .before .before .before .before .before .before .before .before .before .before .before .before .before) .pre .1 .1 .1 .0) g ((c .before .before .before .before .before .before .before .before .before .before .before .before .before .before .before .before .before .before .before .before .before .before .before .before .before .before .before .work-node) .result) ((c .before .before .before .before .before .before .before .before .before .before .before .before .before .before .before .before .before .before .before .before .before .before .before .before .before .before .before .work-node) .ensures)) ((c .before .before .before .before .before .before .before .before .before .before .before .before .before .before .before .before .before .before .before .before .before .before .before .before .before .before .size) .result + (c .before .before .before .before .before .before .before .before .before .before .before .before .before .before .before .before .before .before .before .before .before .before .before .before .before .before .before .before .before .before .before .before) .args .b .link .0 - (c .before .before .before .before .before .before .before .before .before .before .before .before .before .before .before .before .before .before .before .before .before .before .before .before .before .before .before .before .before .before .before .before) .args .child .0) (same-left (contextOf (read ((c .before .before .before .before .before .before .before .before .before .before .before .before .before .before .before .before .before .before .before .before .before .before .before .before .before .before .before .before .before .before .before .before) .args .file .now))) ((c .before .before .before .before .before .before .before .before .before .before .before .before .before .before .before .before .before .before .before .before .before .before .before .before .before .before .before .before .before .before .before .before) .args .s) ((c .before .before .before .before .before .before .before .before .before .before .before .before .before .before .before .before .before .before .before .before .before .before .before .before .before .before .before .before .before .before .before .before) .pre .1 .1 .1 .0) g ((c .before .before .before .before .before .before .before .before .before .before .before .before .before .before .before .before .before .before .before .before .before .before .before .before .before .before .before .work-node) .result) ((c .before .before .before .before .before .before .before .before .before .before .before .before .before .before .before .before .before .before .before .before .before .before .before .before .before .before .before .work-node) .ensures) ((c .before .before .before .before .before .before .before .before .before .before .before .before .before .before .before .before .before .before .before .before .before .before .before .before .before .before .size) .result) ((c .before .before .before .before .before .before .before .before .before .before .before .before .before .before .before .before .before .before .before .before .before .before .before .before .before .before .size) .ensures .0)) ((c .before .before .before .before .before .before .before .before .before .before .before .before .before .before .before .next-plan) .result) (sym ((c .before .before .before .before .before .before .before .before .before .before .before .before .before .before .before .before .before .before .is-passed) .ensures) ∙ not-false ((c .before .before .before .before .before .before .before .before .before .before .before .before .before .before .before .before .before .before .is-passed) .result) ((c .before .before .before .before .before .before .before .before .before .before .before .before .before .before .before .before .before .if1) .left)) ((c .before .before .before .before .before .before .before .before .before .before .before .before .before .before .before .next-plan) .ensures) ((c .before .before .before .before .before .before .before .before .before .before .before .before .before .walk-list2) .ensures) ((c .before .before .before .before .before .before .gathered4) .ensures)) ((c .before .before .of-answered3) .ensures .0 (ap (λ x. isPassed (x .answer)) ((c .before .before .before .before .before .before .gathered4) .ensures) ∙ sym ((c .before .before .before .before .before .is-passed2) .ensures) ∙ (c .before .before .before .before .if4) .left) (contextOf (read ((c .before .before .before .before .before .before .before .before .before .before .before .before .before .before .before .before .before .before .before .before .before .before .before .before .before .before .before .before .before .before .before .before) .args .file .now))) false ((c .before .before .before .before .before .before .before .before .before .before .before .before .before .before .before .before .before .before .before .before .before .before .before .before .before .before .before .before .before .before .before .before) .args .s))
+behind-child-returns-5 : (t : ℕ) → behind-child-lts.Need-returns-5 (work-node-reads.Asked, work-node-reads.Learnt, link-plan-reads.Asked, link-plan-reads.Learnt, plan-behind-reads.Asked, plan-behind-reads.Learnt, is-passed-reads.Asked, is-passed-reads.Learnt, is-branches-reads.Asked, is-branches-reads.Learnt, walk-list-below t, walk-list.Post, either-reads.Asked, either-reads.Learnt, gathered-reads.Asked, gathered-reads.Learnt, of-answered-reads.Asked, of-answered-reads.Learnt, pass-row-reads.Asked, pass-row-reads.Learnt, stopped-reads.Asked, stopped-reads.Learnt, of-passed-reads.Asked, of-passed-reads.Learnt, next-plan-reads.Asked, next-plan-reads.Learnt) (behind-child-at t) behind-child.Post
+behind-child-returns-5 t c = λ table₀ g. child-behind (contextOf (read ((c .before .before .before .before .before .before .before .before .before .before .before .before .before .before .before .before .before .before .before .before .before .before .before .before .before .before .before) .args .file .now))) ((c .before .before .before .before .before .before .before .before .before .before .before .before .before .before .before .before .before .before .before .before .before .before .before .before .before .before .before) .args .s) ((c .before .before .before .before .before .before .before .before .before .before .before .before .before .before .before .before .before .before .before .before .before .before .before .before .before .before .before) .pre .1 .1 .1 .0) g ((c .before .before .before .before .before .before .before .before .before .before .before .before .before .before .before .before .before .before .before .before .before .before .work-node) .result) ((c .before .before .before .before .before .before .before .before .before .before .before .before .before .before .before .before .before .before .before .before .before .before .work-node) .ensures) (row-all (contextOf (read ((c .before .before .before .before .before .before .before .before .before .before .before .before .before .before .before .before .before .before .before .before .before .before .before .before .before .before .before) .args .file .now))) ((c .before .before .before .before .before .before .before .before .before .before .before .before .before .before .before .before .before .before .before .before .before .before .before .before .before .before .before) .args .s) ((c .before .before .before .before .before .before .before .before .before .before .before .before .before .before .before .before .before .before .before .before .before .before .before .before .before .before .before) .pre .1 .1 .1 .0) g ((c .before .before .before .before .before .before .before .before .before .before .before .before .before .before .before .before .before .before .before .before .plan-behind) .result) ((c .before .before .before .before .before .before .before .before .before .before .before .before .before .before .before .before .before .before .before .before .plan-behind) .ensures ∙ ap (λ p. planBehind p ((c .before .before .before .before .before .before .before .before .before .before .before .before .before .before .before .before .before .before .before .before .before .before .before .before .before .before .before) .args .b .before)) ((c .before .before .before .before .before .before .before .before .before .before .before .before .before .before .before .before .before .before .before .before .before .link-plan) .ensures) ∙ plan-was (contextOf (read ((c .before .before .before .before .before .before .before .before .before .before .before .before .before .before .before .before .before .before .before .before .before .before .before .before .before .before .before) .args .file .now))) ((c .before .before .before .before .before .before .before .before .before .before .before .before .before .before .before .before .before .before .before .before .before .before .before .before .before .before .before) .args .s) ((c .before .before .before .before .before .before .before .before .before .before .before .before .before .before .before .before .before .before .before .before .before .before .before .before .before .before .before) .pre .1 .1 .1 .0) g ((c .before .before .before .before .before .before .before .before .before .before .before .before .before .before .before .before .before .before .before .before .before .before .work-node) .result) ((c .before .before .before .before .before .before .before .before .before .before .before .before .before .before .before .before .before .before .before .before .before .before .work-node) .ensures)) ((c .before .before .before .before .before .before .before .before .before .before .before .before .before .before .before .next-plan) .result) (sym ((c .before .before .before .before .before .before .before .before .before .before .before .before .before .before .before .before .before .before .is-passed) .ensures) ∙ not-false ((c .before .before .before .before .before .before .before .before .before .before .before .before .before .before .before .before .before .before .is-passed) .result) ((c .before .before .before .before .before .before .before .before .before .before .before .before .before .before .before .before .before .if1) .left)) ((c .before .before .before .before .before .before .before .before .before .before .before .before .before .before .before .next-plan) .ensures) ((c .before .before .before .before .before .before .before .before .before .before .before .before .before .walk-list2) .ensures) ((c .before .before .before .before .before .before .gathered4) .ensures)) ((c .before .before .of-answered3) .ensures .0 (ap (λ x. isPassed (x .answer)) ((c .before .before .before .before .before .before .gathered4) .ensures) ∙ sym ((c .before .before .before .before .before .is-passed2) .ensures) ∙ (c .before .before .before .before .if4) .left) (contextOf (read ((c .before .before .before .before .before .before .before .before .before .before .before .before .before .before .before .before .before .before .before .before .before .before .before .before .before .before .before) .args .file .now))) false ((c .before .before .before .before .before .before .before .before .before .before .before .before .before .before .before .before .before .before .before .before .before .before .before .before .before .before .before) .args .s))
 
 abbrev substitute-single-use-symbol-in-expression-Inv-loop :
     substitute-single-use-symbol-in-expression-lts.InvT-loop
@@ -318,7 +302,7 @@ substitute-single-use-symbol-in-expression-leaves-before-requires :
     substitute-single-use-symbol-in-expression.Post
     substitute-single-use-symbol-in-expression-Inv-loop
     substitute-single-use-symbol-in-expression-μ-loop
-substitute-single-use-symbol-in-expression-leaves-before-requires t c κs = let g = (c .before .before .before .loop) .inv .2 ((c .before .before .before .before .before .before .before .before .before .before .before .before .before .before) .args .nodes .now) (record { links = (c .before .before .before .before .before .before .before .before .before .before .behind-links) .ensures .links; here = (c .before .before .before .before .before .before .before .before .before .before .behind-links) .ensures .here; did = (c .before .before .before .before .before .before .before .walk-node) .ensures; same = (c .before .before .before .before .before .before .before .walk-node) .kept .1 .1 .0 }) in (within-room (contextOf (read ((c .before .before .before .before .before .before .before .before .before .before .before .before .before .before) .args .file .now))) ((c .before .before .before .before .before .before .before .before .before .before .before .before .before .before) .args .s) ((c .before .before .before .before .before .before .before .before .before .before .before .before .before .before) .pre .1 .1 .1 .1) g (ltb-true ((c .before .before .before .before .before .before .before .before .before .before .before .before .before .before) .args .at .0) ((c .before .before .before .loop) .i) (and-right (not ((c .before .before .before .loop) .replaced)) (ltb ((c .before .before .before .before .before .before .before .before .before .before .before .before .before .before) .args .at .0) ((c .before .before .before .loop) .i)) ((c .before .if1) .taken))), within-node (contextOf (read ((c .before .before .before .before .before .before .before .before .before .before .before .before .before .before) .args .file .now))) ((c .before .before .before .before .before .before .before .before .before .before .before .before .before .before) .args .s) ((c .before .before .before .before .before .before .before .before .before .before .before .before .before .before) .pre .1 .1 .1 .1) g (ltb-true ((c .before .before .before .before .before .before .before .before .before .before .before .before .before .before) .args .at .0) ((c .before .before .before .loop) .i) (and-right (not ((c .before .before .before .loop) .replaced)) (ltb ((c .before .before .before .before .before .before .before .before .before .before .before .before .before .before) .args .at .0) ((c .before .before .before .loop) .i)) ((c .before .if1) .taken))))
+substitute-single-use-symbol-in-expression-leaves-before-requires t c κs = let g = (c .before .before .before .loop) .inv .2 ((c .before .before .before .before .before .before .before .before .before .before .before .before .before .before) .args .nodes .now) (record { links = (c .before .before .before .before .before .before .before .before .before .before .behind-links) .ensures .links; here = (c .before .before .before .before .before .before .before .before .before .before .behind-links) .ensures .here; did = (c .before .before .before .before .before .before .before .walk-node) .ensures; same = (c .before .before .before .before .before .before .before .walk-node) .kept .1 .1 .0 }) in (within-room (contextOf (read ((c .before .before .before .before .before .before .before .before .before .before .before .before .before .before) .args .file .now))) ((c .before .before .before .before .before .before .before .before .before .before .before .before .before .before) .args .s) ((c .before .before .before .before .before .before .before .before .before .before .before .before .before .before) .pre .1 .1 .1 .1) g (ltb-true ((c .before .before .before .before .before .before .before .before .before .before .before .before .before .before) .args .at .0) ((c .before .before .before .loop) .i) (and-right (not ((c .before .before .before .loop) .replaced)) (ltb ((c .before .before .before .before .before .before .before .before .before .before .before .before .before .before) .args .at .0) ((c .before .before .before .loop) .i)) ((c .before .if1) .taken))), within-above (contextOf (read ((c .before .before .before .before .before .before .before .before .before .before .before .before .before .before) .args .file .now))) ((c .before .before .before .before .before .before .before .before .before .before .before .before .before .before) .args .s) ((c .before .before .before .before .before .before .before .before .before .before .before .before .before .before) .pre .1 .1 .1 .1) g (ltb-true ((c .before .before .before .before .before .before .before .before .before .before .before .before .before .before) .args .at .0) ((c .before .before .before .loop) .i) (and-right (not ((c .before .before .before .loop) .replaced)) (ltb ((c .before .before .before .before .before .before .before .before .before .before .before .before .before .before) .args .at .0) ((c .before .before .before .loop) .i)) ((c .before .if1) .taken))))
 
 substitute-single-use-symbol-in-expression-behind-child-requires :
     (t : ℕ) → substitute-single-use-symbol-in-expression-lts.Need-behind-child-requires (behind-links-reads.Asked, behind-links-reads.Learnt, walk-node-below t, walk-node.Post, is-replaced-reads.Asked, is-replaced-reads.Learnt, leaves-before-reads.Asked, leaves-before-reads.Learnt, behind-child-below t, behind-child.Post, gathered-reads.Asked, gathered-reads.Learnt)
@@ -326,7 +310,7 @@ substitute-single-use-symbol-in-expression-behind-child-requires :
     substitute-single-use-symbol-in-expression.Post
     substitute-single-use-symbol-in-expression-Inv-loop
     substitute-single-use-symbol-in-expression-μ-loop
-substitute-single-use-symbol-in-expression-behind-child-requires t c κs = let g = (c .before .before .before .before .before .loop) .inv .2 ((c .before .before .before .before .before .before .before .before .before .before .before .before .before .before .before .before) .args .nodes .now) (record { links = (c .before .before .before .before .before .before .before .before .before .before .before .before .behind-links) .ensures .links; here = (c .before .before .before .before .before .before .before .before .before .before .before .before .behind-links) .ensures .here; did = (c .before .before .before .before .before .before .before .before .before .walk-node) .ensures; same = (c .before .before .before .before .before .before .before .before .before .walk-node) .kept .1 .1 .0 }) in (omega (arith, (c .before .before .before .before .before .before .before .before .before .before .before .before .before .before .before .before) .pre .0, before-later (contextOf (read ((c .before .before .before .before .before .before .before .before .before .before .before .before .before .before .before .before) .args .file .now))) ((c .before .before .before .before .before .before .before .before .before .before .before .before .before .before .before .before) .args .s) ((c .before .before .before .before .before .before .before .before .before .before .before .before .before .before .before .before) .pre .1 .1 .1 .1) g (ltb-true ((c .before .before .before .before .before .before .before .before .before .before .before .before .before .before .before .before) .args .at .0) ((c .before .before .before .before .before .loop) .i) (and-right (not ((c .before .before .before .before .before .loop) .replaced)) (ltb ((c .before .before .before .before .before .before .before .before .before .before .before .before .before .before .before .before) .args .at .0) ((c .before .before .before .before .before .loop) .i)) ((c .before .before .before .if1) .taken))) ((c .before .leaves-before) .result) ((c .before .leaves-before) .ensures), before-room (contextOf (read ((c .before .before .before .before .before .before .before .before .before .before .before .before .before .before .before .before) .args .file .now))) ((c .before .before .before .before .before .before .before .before .before .before .before .before .before .before .before .before) .args .s) ((c .before .before .before .before .before .before .before .before .before .before .before .before .before .before .before .before) .pre .1 .1 .1 .1) g (ltb-true ((c .before .before .before .before .before .before .before .before .before .before .before .before .before .before .before .before) .args .at .0) ((c .before .before .before .before .before .loop) .i) (and-right (not ((c .before .before .before .before .before .loop) .replaced)) (ltb ((c .before .before .before .before .before .before .before .before .before .before .before .before .before .before .before .before) .args .at .0) ((c .before .before .before .before .before .loop) .i)) ((c .before .before .before .if1) .taken))) ((c .before .leaves-before) .result) ((c .before .leaves-before) .ensures), (c .before .before .before .before .before .loop) .inv .1, (c .before .before .before .before .before .before .before .before .before .walk-node) .kept .1 .1 .0), ((c .before .before .before .before .before .before .before .before .before .before .before .before .before .before .before .before) .pre .1 .0, ((c .before .before .before .before .before .before .before .before .before .before .before .before .before .before .before .before) .pre .1 .1 .0, (((c .before .before .before .before .before .before .before .before .before .before .before .before .before .before .before .before) .pre .1 .1 .1 .1), ((c .before .before .before .before .before .before .before .before .before .before .before .before .before .before .before .before) .args .nodes .now, within-child (contextOf (read ((c .before .before .before .before .before .before .before .before .before .before .before .before .before .before .before .before) .args .file .now))) ((c .before .before .before .before .before .before .before .before .before .before .before .before .before .before .before .before) .args .s) ((c .before .before .before .before .before .before .before .before .before .before .before .before .before .before .before .before) .pre .1 .1 .1 .1) g (ltb-true ((c .before .before .before .before .before .before .before .before .before .before .before .before .before .before .before .before) .args .at .0) ((c .before .before .before .before .before .loop) .i) (and-right (not ((c .before .before .before .before .before .loop) .replaced)) (ltb ((c .before .before .before .before .before .before .before .before .before .before .before .before .before .before .before .before) .args .at .0) ((c .before .before .before .before .before .loop) .i)) ((c .before .before .before .if1) .taken))) ((c .before .leaves-before) .result) ((c .before .leaves-before) .ensures) (sym ((c .before .before .before .before .before .loop) .inv .0) ∙ not-true ((c .before .before .before .before .before .loop) .replaced) (and-left (not ((c .before .before .before .before .before .loop) .replaced)) (ltb ((c .before .before .before .before .before .before .before .before .before .before .before .before .before .before .before .before) .args .at .0) ((c .before .before .before .before .before .loop) .i)) ((c .before .before .before .if1) .taken))) .0, within-child (contextOf (read ((c .before .before .before .before .before .before .before .before .before .before .before .before .before .before .before .before) .args .file .now))) ((c .before .before .before .before .before .before .before .before .before .before .before .before .before .before .before .before) .args .s) ((c .before .before .before .before .before .before .before .before .before .before .before .before .before .before .before .before) .pre .1 .1 .1 .1) g (ltb-true ((c .before .before .before .before .before .before .before .before .before .before .before .before .before .before .before .before) .args .at .0) ((c .before .before .before .before .before .loop) .i) (and-right (not ((c .before .before .before .before .before .loop) .replaced)) (ltb ((c .before .before .before .before .before .before .before .before .before .before .before .before .before .before .before .before) .args .at .0) ((c .before .before .before .before .before .loop) .i)) ((c .before .before .before .if1) .taken))) ((c .before .leaves-before) .result) ((c .before .leaves-before) .ensures) (sym ((c .before .before .before .before .before .loop) .inv .0) ∙ not-true ((c .before .before .before .before .before .loop) .replaced) (and-left (not ((c .before .before .before .before .before .loop) .replaced)) (ltb ((c .before .before .before .before .before .before .before .before .before .before .before .before .before .before .before .before) .args .at .0) ((c .before .before .before .before .before .loop) .i)) ((c .before .before .before .if1) .taken))) .1)))))
+substitute-single-use-symbol-in-expression-behind-child-requires t c κs = let g = (c .before .before .before .before .before .loop) .inv .2 ((c .before .before .before .before .before .before .before .before .before .before .before .before .before .before .before .before) .args .nodes .now) (record { links = (c .before .before .before .before .before .before .before .before .before .before .before .before .behind-links) .ensures .links; here = (c .before .before .before .before .before .before .before .before .before .before .before .before .behind-links) .ensures .here; did = (c .before .before .before .before .before .before .before .before .before .walk-node) .ensures; same = (c .before .before .before .before .before .before .before .before .before .walk-node) .kept .1 .1 .0 }) in (omega (arith, (c .before .before .before .before .before .before .before .before .before .before .before .before .before .before .before .before) .pre .0, before-later (contextOf (read ((c .before .before .before .before .before .before .before .before .before .before .before .before .before .before .before .before) .args .file .now))) ((c .before .before .before .before .before .before .before .before .before .before .before .before .before .before .before .before) .args .s) ((c .before .before .before .before .before .before .before .before .before .before .before .before .before .before .before .before) .pre .1 .1 .1 .1) g (ltb-true ((c .before .before .before .before .before .before .before .before .before .before .before .before .before .before .before .before) .args .at .0) ((c .before .before .before .before .before .loop) .i) (and-right (not ((c .before .before .before .before .before .loop) .replaced)) (ltb ((c .before .before .before .before .before .before .before .before .before .before .before .before .before .before .before .before) .args .at .0) ((c .before .before .before .before .before .loop) .i)) ((c .before .before .before .if1) .taken))) ((c .before .leaves-before) .result) ((c .before .leaves-before) .ensures), before-room (contextOf (read ((c .before .before .before .before .before .before .before .before .before .before .before .before .before .before .before .before) .args .file .now))) ((c .before .before .before .before .before .before .before .before .before .before .before .before .before .before .before .before) .args .s) ((c .before .before .before .before .before .before .before .before .before .before .before .before .before .before .before .before) .pre .1 .1 .1 .1) g (ltb-true ((c .before .before .before .before .before .before .before .before .before .before .before .before .before .before .before .before) .args .at .0) ((c .before .before .before .before .before .loop) .i) (and-right (not ((c .before .before .before .before .before .loop) .replaced)) (ltb ((c .before .before .before .before .before .before .before .before .before .before .before .before .before .before .before .before) .args .at .0) ((c .before .before .before .before .before .loop) .i)) ((c .before .before .before .if1) .taken))) ((c .before .leaves-before) .result) ((c .before .leaves-before) .ensures), (c .before .before .before .before .before .loop) .inv .1, (c .before .before .before .before .before .before .before .before .before .walk-node) .kept .1 .1 .0), ((c .before .before .before .before .before .before .before .before .before .before .before .before .before .before .before .before) .pre .1 .0, ((c .before .before .before .before .before .before .before .before .before .before .before .before .before .before .before .before) .pre .1 .1 .0, (((c .before .before .before .before .before .before .before .before .before .before .before .before .before .before .before .before) .pre .1 .1 .1 .1), ((c .before .before .before .before .before .before .before .before .before .before .before .before .before .before .before .before) .args .nodes .now, within-child (contextOf (read ((c .before .before .before .before .before .before .before .before .before .before .before .before .before .before .before .before) .args .file .now))) ((c .before .before .before .before .before .before .before .before .before .before .before .before .before .before .before .before) .args .s) ((c .before .before .before .before .before .before .before .before .before .before .before .before .before .before .before .before) .pre .1 .1 .1 .1) g (ltb-true ((c .before .before .before .before .before .before .before .before .before .before .before .before .before .before .before .before) .args .at .0) ((c .before .before .before .before .before .loop) .i) (and-right (not ((c .before .before .before .before .before .loop) .replaced)) (ltb ((c .before .before .before .before .before .before .before .before .before .before .before .before .before .before .before .before) .args .at .0) ((c .before .before .before .before .before .loop) .i)) ((c .before .before .before .if1) .taken))) ((c .before .leaves-before) .result) ((c .before .leaves-before) .ensures) (sym ((c .before .before .before .before .before .loop) .inv .0) ∙ not-true ((c .before .before .before .before .before .loop) .replaced) (and-left (not ((c .before .before .before .before .before .loop) .replaced)) (ltb ((c .before .before .before .before .before .before .before .before .before .before .before .before .before .before .before .before) .args .at .0) ((c .before .before .before .before .before .loop) .i)) ((c .before .before .before .if1) .taken))))))))
 
 substitute-single-use-symbol-in-expression-add-looks :
     (t : ℕ) → substitute-single-use-symbol-in-expression-lts.Need-add-looks (behind-links-reads.Asked, behind-links-reads.Learnt, walk-node-below t, walk-node.Post, is-replaced-reads.Asked, is-replaced-reads.Learnt, leaves-before-reads.Asked, leaves-before-reads.Learnt, behind-child-below t, behind-child.Post, gathered-reads.Asked, gathered-reads.Learnt)
@@ -358,7 +342,7 @@ substitute-single-use-symbol-in-expression-loop-less :
     substitute-single-use-symbol-in-expression.Post
     substitute-single-use-symbol-in-expression-Inv-loop
     substitute-single-use-symbol-in-expression-μ-loop
-substitute-single-use-symbol-in-expression-loop-less t c = (c .before .before .before .before .before .before .before .leaves-before) .ensures .sooner
+substitute-single-use-symbol-in-expression-loop-less t c = let g = (c .before .before .before .before .before .before .before .before .before .before .before .loop) .inv .2 ((c .before .before .before .before .before .before .before .before .before .before .before .before .before .before .before .before .before .before .before .before .before .before) .args .nodes .now) (record { links = (c .before .before .before .before .before .before .before .before .before .before .before .before .before .before .before .before .before .before .behind-links) .ensures .links; here = (c .before .before .before .before .before .before .before .before .before .before .before .before .before .before .before .before .before .before .behind-links) .ensures .here; did = (c .before .before .before .before .before .before .before .before .before .before .before .before .before .before .before .walk-node) .ensures; same = (c .before .before .before .before .before .before .before .before .before .before .before .before .before .before .before .walk-node) .kept .1 .1 .0 }) in before-sooner (contextOf (read ((c .before .before .before .before .before .before .before .before .before .before .before .before .before .before .before .before .before .before .before .before .before .before) .args .file .now))) ((c .before .before .before .before .before .before .before .before .before .before .before .before .before .before .before .before .before .before .before .before .before .before) .args .s) ((c .before .before .before .before .before .before .before .before .before .before .before .before .before .before .before .before .before .before .before .before .before .before) .pre .1 .1 .1 .1) g (ltb-true ((c .before .before .before .before .before .before .before .before .before .before .before .before .before .before .before .before .before .before .before .before .before .before) .args .at .0) ((c .before .before .before .before .before .before .before .before .before .before .before .loop) .i) (and-right (not ((c .before .before .before .before .before .before .before .before .before .before .before .loop) .replaced)) (ltb ((c .before .before .before .before .before .before .before .before .before .before .before .before .before .before .before .before .before .before .before .before .before .before) .args .at .0) ((c .before .before .before .before .before .before .before .before .before .before .before .loop) .i)) ((c .before .before .before .before .before .before .before .before .before .if1) .taken))) ((c .before .before .before .before .before .before .before .leaves-before) .result) ((c .before .before .before .before .before .before .before .leaves-before) .ensures)
 
 substitute-single-use-symbol-in-expression-loop-again :
     (t : ℕ) → substitute-single-use-symbol-in-expression-lts.Need-loop-again (behind-links-reads.Asked, behind-links-reads.Learnt, walk-node-below t, walk-node.Post, is-replaced-reads.Asked, is-replaced-reads.Learnt, leaves-before-reads.Asked, leaves-before-reads.Learnt, behind-child-below t, behind-child.Post, gathered-reads.Asked, gathered-reads.Learnt)
@@ -366,7 +350,7 @@ substitute-single-use-symbol-in-expression-loop-again :
     substitute-single-use-symbol-in-expression.Post
     substitute-single-use-symbol-in-expression-Inv-loop
     substitute-single-use-symbol-in-expression-μ-loop
-substitute-single-use-symbol-in-expression-loop-again t c = ((c .is-replaced2) .ensures, (c .before .before .before .before .before .behind-child) .kept .1 .1 .0 ∙ (c .before .before .before .before .before .before .before .before .before .before .before .loop) .inv .1, λ table₀ g₀. let g = (c .before .before .before .before .before .before .before .before .before .before .before .loop) .inv .2 table₀ g₀ in let (left, v) = within-child (contextOf (read ((c .before .before .before .before .before .before .before .before .before .before .before .before .before .before .before .before .before .before .before .before .before .before) .args .file .now))) ((c .before .before .before .before .before .before .before .before .before .before .before .before .before .before .before .before .before .before .before .before .before .before) .args .s) ((c .before .before .before .before .before .before .before .before .before .before .before .before .before .before .before .before .before .before .before .before .before .before) .pre .1 .1 .1 .1) g (ltb-true ((c .before .before .before .before .before .before .before .before .before .before .before .before .before .before .before .before .before .before .before .before .before .before) .args .at .0) ((c .before .before .before .before .before .before .before .before .before .before .before .loop) .i) (and-right (not ((c .before .before .before .before .before .before .before .before .before .before .before .loop) .replaced)) (ltb ((c .before .before .before .before .before .before .before .before .before .before .before .before .before .before .before .before .before .before .before .before .before .before) .args .at .0) ((c .before .before .before .before .before .before .before .before .before .before .before .loop) .i)) ((c .before .before .before .before .before .before .before .before .before .if1) .taken))) ((c .before .before .before .before .before .before .before .leaves-before) .result) ((c .before .before .before .before .before .before .before .leaves-before) .ensures) (sym ((c .before .before .before .before .before .before .before .before .before .before .before .loop) .inv .0) ∙ not-true ((c .before .before .before .before .before .before .before .before .before .before .before .loop) .replaced) (and-left (not ((c .before .before .before .before .before .before .before .before .before .before .before .loop) .replaced)) (ltb ((c .before .before .before .before .before .before .before .before .before .before .before .before .before .before .before .before .before .before .before .before .before .before) .args .at .0) ((c .before .before .before .before .before .before .before .before .before .before .before .loop) .i)) ((c .before .before .before .before .before .before .before .before .before .if1) .taken))) in within-link (contextOf (read ((c .before .before .before .before .before .before .before .before .before .before .before .before .before .before .before .before .before .before .before .before .before .before) .args .file .now))) ((c .before .before .before .before .before .before .before .before .before .before .before .before .before .before .before .before .before .before .before .before .before .before) .args .s) ((c .before .before .before .before .before .before .before .before .before .before .before .before .before .before .before .before .before .before .before .before .before .before) .pre .1 .1 .1 .1) g (ltb-true ((c .before .before .before .before .before .before .before .before .before .before .before .before .before .before .before .before .before .before .before .before .before .before) .args .at .0) ((c .before .before .before .before .before .before .before .before .before .before .before .loop) .i) (and-right (not ((c .before .before .before .before .before .before .before .before .before .before .before .loop) .replaced)) (ltb ((c .before .before .before .before .before .before .before .before .before .before .before .before .before .before .before .before .before .before .before .before .before .before) .args .at .0) ((c .before .before .before .before .before .before .before .before .before .before .before .loop) .i)) ((c .before .before .before .before .before .before .before .before .before .if1) .taken))) ((c .before .before .before .before .before .before .before .leaves-before) .result) ((c .before .before .before .before .before .before .before .leaves-before) .ensures) ((c .before .before .before .before .before .behind-child) .ensures table₀ left v) ((c .before .before .before .before .before .behind-child) .kept .1 .1 .0))
+substitute-single-use-symbol-in-expression-loop-again t c = ((c .is-replaced2) .ensures, (c .before .before .before .before .before .behind-child) .kept .1 .1 .0 ∙ (c .before .before .before .before .before .before .before .before .before .before .before .loop) .inv .1, λ table₀ g₀. let g = (c .before .before .before .before .before .before .before .before .before .before .before .loop) .inv .2 table₀ g₀ in let v = within-child (contextOf (read ((c .before .before .before .before .before .before .before .before .before .before .before .before .before .before .before .before .before .before .before .before .before .before) .args .file .now))) ((c .before .before .before .before .before .before .before .before .before .before .before .before .before .before .before .before .before .before .before .before .before .before) .args .s) ((c .before .before .before .before .before .before .before .before .before .before .before .before .before .before .before .before .before .before .before .before .before .before) .pre .1 .1 .1 .1) g (ltb-true ((c .before .before .before .before .before .before .before .before .before .before .before .before .before .before .before .before .before .before .before .before .before .before) .args .at .0) ((c .before .before .before .before .before .before .before .before .before .before .before .loop) .i) (and-right (not ((c .before .before .before .before .before .before .before .before .before .before .before .loop) .replaced)) (ltb ((c .before .before .before .before .before .before .before .before .before .before .before .before .before .before .before .before .before .before .before .before .before .before) .args .at .0) ((c .before .before .before .before .before .before .before .before .before .before .before .loop) .i)) ((c .before .before .before .before .before .before .before .before .before .if1) .taken))) ((c .before .before .before .before .before .before .before .leaves-before) .result) ((c .before .before .before .before .before .before .before .leaves-before) .ensures) (sym ((c .before .before .before .before .before .before .before .before .before .before .before .loop) .inv .0) ∙ not-true ((c .before .before .before .before .before .before .before .before .before .before .before .loop) .replaced) (and-left (not ((c .before .before .before .before .before .before .before .before .before .before .before .loop) .replaced)) (ltb ((c .before .before .before .before .before .before .before .before .before .before .before .before .before .before .before .before .before .before .before .before .before .before) .args .at .0) ((c .before .before .before .before .before .before .before .before .before .before .before .loop) .i)) ((c .before .before .before .before .before .before .before .before .before .if1) .taken))) in within-link (contextOf (read ((c .before .before .before .before .before .before .before .before .before .before .before .before .before .before .before .before .before .before .before .before .before .before) .args .file .now))) ((c .before .before .before .before .before .before .before .before .before .before .before .before .before .before .before .before .before .before .before .before .before .before) .args .s) ((c .before .before .before .before .before .before .before .before .before .before .before .before .before .before .before .before .before .before .before .before .before .before) .pre .1 .1 .1 .1) g (ltb-true ((c .before .before .before .before .before .before .before .before .before .before .before .before .before .before .before .before .before .before .before .before .before .before) .args .at .0) ((c .before .before .before .before .before .before .before .before .before .before .before .loop) .i) (and-right (not ((c .before .before .before .before .before .before .before .before .before .before .before .loop) .replaced)) (ltb ((c .before .before .before .before .before .before .before .before .before .before .before .before .before .before .before .before .before .before .before .before .before .before) .args .at .0) ((c .before .before .before .before .before .before .before .before .before .before .before .loop) .i)) ((c .before .before .before .before .before .before .before .before .before .if1) .taken))) ((c .before .before .before .before .before .before .before .leaves-before) .result) ((c .before .before .before .before .before .before .before .leaves-before) .ensures) ((c .before .before .before .before .before .behind-child) .ensures table₀ v) ((c .before .before .before .before .before .behind-child) .kept .1 .1 .0))
 
 substitute-single-use-symbol-in-expression-gathered-requires :
     (t : ℕ) → substitute-single-use-symbol-in-expression-lts.Need-gathered-requires (behind-links-reads.Asked, behind-links-reads.Learnt, walk-node-below t, walk-node.Post, is-replaced-reads.Asked, is-replaced-reads.Learnt, leaves-before-reads.Asked, leaves-before-reads.Learnt, behind-child-below t, behind-child.Post, gathered-reads.Asked, gathered-reads.Learnt)
@@ -670,16 +654,11 @@ pub +behind-child+substitute-single-use-symbol-in-expression+walk-item+walk-list
     μ-walk-item
     μ-walk-list
     μ-walk-node
-    (λ t. behind-child-lts.spec (work-node-reads.Asked, work-node-reads.Learnt, size-reads.Asked, size-reads.Learnt, link-plan-reads.Asked, link-plan-reads.Learnt, plan-behind-reads.Asked, plan-behind-reads.Learnt, is-passed-reads.Asked, is-passed-reads.Learnt, is-branches-reads.Asked, is-branches-reads.Learnt, walk-list-below t, walk-list.Post, either-reads.Asked, either-reads.Learnt, gathered-reads.Asked, gathered-reads.Learnt, of-answered-reads.Asked, of-answered-reads.Learnt, pass-row-reads.Asked, pass-row-reads.Learnt, stopped-reads.Asked, stopped-reads.Learnt, of-passed-reads.Asked, of-passed-reads.Learnt, next-plan-reads.Asked, next-plan-reads.Learnt)
+    (λ t. behind-child-lts.spec (work-node-reads.Asked, work-node-reads.Learnt, link-plan-reads.Asked, link-plan-reads.Learnt, plan-behind-reads.Asked, plan-behind-reads.Learnt, is-passed-reads.Asked, is-passed-reads.Learnt, is-branches-reads.Asked, is-branches-reads.Learnt, walk-list-below t, walk-list.Post, either-reads.Asked, either-reads.Learnt, gathered-reads.Asked, gathered-reads.Learnt, of-answered-reads.Asked, of-answered-reads.Learnt, pass-row-reads.Asked, pass-row-reads.Learnt, stopped-reads.Asked, stopped-reads.Learnt, of-passed-reads.Asked, of-passed-reads.Learnt, next-plan-reads.Asked, next-plan-reads.Learnt)
     (behind-child-at t)
     behind-child.Post
     (behind-child-work-node-requires t)
-    (behind-child-size-requires t)
-    (behind-child-add-left t)
-    (behind-child-sub-left t)
     (behind-child-link-plan-requires t)
-    (behind-child-sub-plan-behind t)
-    (behind-child-sub-plan-behind-2 t)
     (behind-child-plan-behind-requires t)
     (behind-child-is-passed-requires t)
     (behind-child-is-branches-requires t)
