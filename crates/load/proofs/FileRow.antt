@@ -3,16 +3,15 @@ use mathlib.Core.Path.{_≡_, refl, sym, ap, _∙_}
 use mathlib.Core.List.{List, [], _∷_, _++_, append-assoc}
 use Prim.Native.Nat.{ℕ, _+_, _*_, _≤_}
 use native.Mathlib.Omega.{arith}
-use lib.ListN.{length, take, drop, length-append}
-use lib.Seq.{take-at, drop-at, getD-at}
+use lib.ListN.{length, length-append}
+use lib.Seq.{getD-at}
 use Rattle.records.specs.Limits.{nodeLength}
 use Rattle.records.specs.Record.{nodeAt}
 use Rattle.records.specs.Records.{recordsFrom}
-use Rattle.records.specs.Tree.{Node, Tree, Trees, node, none, more, count, size, sizes, joined, recordOf, preorder, preorders}
+use Rattle.records.specs.Tree.{Node, Tree, Trees, node, more, count, size, sizes, joined, recordOf, preorder, preorders}
 use Rattle.records.specs.declared.layout.NodeRecord.{NodeRecord}
 use Rattle.records.proofs.Series.{record-at, records-length}
 use Rattle.roundtrip.proofs.Preorder.{preorders-joined, preorder-length, preorders-length, preorder-append}
-use Rattle.roundtrip.proofs.Series.{recordsFrom-add}
 use Rattle.load.specs.Load.{FileRow, FileTree}
 
 -- Every record stands before the row, in it or behind it.
@@ -77,20 +76,3 @@ pub tree-room : {file : List ℕ} {from at total : ℕ} {t : Tree} {before behin
     → from + nodeLength * at + nodeLength * size t ≤ length file
 unfolding sizes
 tree-room h = omega (arith, room h)
-
--- The records of a tree are those that are read from its place on.
-pub tree-records : {file : List ℕ} {from at total : ℕ} {t : Tree} {before behind : List NodeRecord} → FileTree file from at t total before behind
-    → recordsFrom (nodeAt file) nodeLength (size t) (from + nodeLength * at) ≡ preorder t []
-unfolding preorders sizes
-tree-records {file} {from} {at} {total} {t} {before} {behind} h =
-    let m = length behind in
-    let all : ℕ → ℕ → List NodeRecord = λ many place. recordsFrom (nodeAt file) nodeLength many place in
-    let here = from + nodeLength * at in
-    let cut : total ≡ at + (size t + m) = omega (arith, parts h) in
-    let tail : all (size t + m) here ≡ preorder t behind
-    = sym (drop-at (all at from) (all (size t + m) here) at (records-length (nodeAt file) nodeLength at from))
-    ∙ ap (drop at) (sym (recordsFrom-add (nodeAt file) nodeLength at (size t + m) from) ∙ ap (λ (k : ℕ). all k from) (sym cut) ∙ h .is)
-    ∙ drop-at before (preorder t behind) at (h .starts) in
-    sym (take-at (all (size t) here) (all m (here + nodeLength * size t)) (size t) (records-length (nodeAt file) nodeLength (size t) here))
-    ∙ ap (take (size t)) (sym (recordsFrom-add (nodeAt file) nodeLength (size t) m here) ∙ tail ∙ preorder-append t [] behind)
-    ∙ take-at (preorder t []) behind (size t) (omega (arith, preorder-length t []))

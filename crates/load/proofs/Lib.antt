@@ -1,4 +1,3 @@
 -- Laws of the trees in a file, and of a tree that is copied.
 pub mod FileRow
-pub mod Counting
 pub mod Loading

@@ -73,10 +73,6 @@ mutual
   laids-bytes none rs = refl
   laids-bytes (more t ts) rs = ap (laid t) (laids-bytes ts rs) ∙ laid-bytes t (preorders ts rs)
 
-pub laid-preorder : (t : Tree) (rest : List ℕ) → laid t rest ≡ bytesOf workBytes (preorder t []) ++ rest
-unfolding bytesOf
-laid-preorder t rest = laid-split t rest ∙ ap (λ (l : List ℕ). l ++ rest) (laid-bytes t [])
-
 pub laids-preorders : (ts : Trees) (rest : List ℕ) → laids ts rest ≡ bytesOf workBytes (preorders ts []) ++ rest
 unfolding bytesOf
 laids-preorders ts rest = laids-split ts rest ∙ ap (λ (l : List ℕ). l ++ rest) (laids-bytes ts [])

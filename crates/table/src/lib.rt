@@ -67,27 +67,13 @@ pub fn put_work_node(out: &mut [u8], n: NodeRecord)
 }
 
 // Lays the node record at a place of a file down at the start of `out`, as a record of the table.
-fn copy_node(file: &[u8], at: usize, out: &mut [u8])
+pub fn copy_node(file: &[u8], at: usize, out: &mut [u8])
     requires { ⌜ at + 12 ≤ length (now file) ⌝ }
     requires { ⌜ 16 ≤ length (now out) ⌝ }
     ensures { λ _. ⌜ now (out .exit) ≡ workBytes (nodeAt (now (file .entry)) at) ++ drop 16 (now (out .entry)) ⌝ }
 {
     let record = work_bytes(record_at(file, at));
     bytes::copy(&record, out);
-}
-
-// Copies the node records of a file, `count` from `from` on, to the start of the table.
-pub fn copy_nodes(file: &[u8], from: usize, count: usize, table: &mut [u8])
-    requires { ⌜ from + 12 * count ≤ length (now file) ⌝ }
-    requires { ⌜ 16 * count ≤ length (now table) ⌝ }
-    ensures { λ _. ⌜ now (table .exit) ≡ bytesOf workBytes (recordsFrom (nodeAt (now (file .entry))) 12 count from) ++ drop (16 * count) (now (table .entry)) ⌝ }
-{
-    let mut i = count;
-    while 0 < i {
-        i -= 1;
-        let at = 16 * i;
-        copy_node(file, from + 12 * i, &mut table[at..]);
-    }
 }
 
 // Lays the record at a place of the table down at the start of `out`, as a file's node record.
