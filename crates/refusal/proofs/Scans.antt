@@ -1,76 +1,93 @@
 -- One node more in the pass over the nodes. Assumes nothing.
 use mathlib.Core.Path.{_≡_, refl, sym, ap, subst, _∙_}
-use mathlib.Core.Bool.{Bool, true, false, not, _&&_, _||_}
-use mathlib.Core.List.{List, [], _∷_}
+use mathlib.Core.Bool.{Bool, true, not, _&&_, _||_}
+use mathlib.Core.List.{List}
 use Prim.Native.Nat.{ℕ, _+_, _-_, _*_, _≤_, _<_, min}
 use native.Mathlib.Omega.{arith}
 use lib.ListN.{length, getD, drop, set, length-drop}
-use lib.Dec.{eqb, ltb, leb}
-use borrow.Author.Tests.{eq-eqb, eqb-true, not-false, le-leb}
-use Rattle.records.specs.Limits.{noPosition}
+use lib.Dec.{eqb}
+use Rattle.records.specs.Flags.{optional}
 use Rattle.records.specs.Record.{nameAt, nodeAt}
 use Rattle.records.specs.Records.{recordsFrom, every, everyFrom}
 use Rattle.records.specs.File.{one, nodesStart, namesOf, nodesOf}
-use Rattle.records.specs.Node.{fewest, most, goodNode, goodNodeOf, goodFlags, goodChildren}
+use Rattle.records.specs.Node.{goodNode}
 use Rattle.records.specs.Tree.{nodeOf, rowOf, closed}
 use Rattle.records.specs.Place.{allPlaced}
 use Rattle.records.specs.Count.{targetName, readsOf, targetsOf}
 use Rattle.records.specs.declared.layout.Header.{Header}
 use Rattle.records.specs.declared.layout.NameFacts.{NameFacts}
 use Rattle.records.specs.declared.layout.NodeRecord.{NodeRecord}
-use Rattle.records.proofs.Tests.{neither, every-cons}
+use Rattle.records.proofs.Tests.{every-cons}
 use Rattle.records.proofs.Behind.{one-more, all-left}
 use Rattle.records.proofs.Names.{node-judged}
-use Rattle.trees.specs.Stack.{childrenStand, nodeEntry, entry, entries, RootsFollow}
+use Rattle.trees.specs.Stack.{childrenStand, nodeEntry, entry, entries, entryLoose}
 use Rattle.trees.proofs.Growth.{growing-none, growing-more, growing-all, growing-good}
-use Rattle.trees.proofs.Plain.{takes-expressions, plain-good, plain-entry}
 use Rattle.uses.specs.Tally.{Tally, recordRead}
 use Rattle.uses.proofs.Counting.{counting-none, counting-more, reads-low, targets-low, counted-reads, counted-targets}
 use Rattle.refusal.specs.Passing.{HeaderPasses}
+use Rattle.rows.specs.Rows.{Sets, Fits, ChildrenFit}
 use Rattle.refusal.proofs.Limits.{length-said, nodes-fit}
-use Rattle.refusal.specs.Scanning.{Scanning, Plain}
+use Rattle.rows.proofs.Rows.{row-of}
+use Rattle.refusal.proofs.Named.{known-target, plain-read, unnamed-read, unnamed-target}
+use Rattle.rows.proofs.Standing.{leaf-stands, leaf-entry, row-stands, row-entry}
+use Rattle.refusal.specs.Scanning.{Scanning, targetBehind}
 use Rattle.refusal.specs.declared.scan.Scan.{Scan}
 
 -- no node is taken yet
 pub scanned-none : {bs : List ℕ} {h : Header} {stack reads targets : List ℕ} (top left : ℕ) → top ≡ length stack → left ≡ h .nodes
     → Tally (λ k. 0) reads → Tally (λ k. 0) targets
-    → Scanning bs h stack reads targets (record { nodes = true; trees = true; next = 65535; top = top; left = left })
+    → Scanning bs h stack reads targets (record { nodes = true; trees = true; top = top; left = left })
 unfolding recordsFrom everyFrom
 scanned-none {h = h} top left et el tr tt' = let none : h .nodes - h .nodes ≡ 0 = omega arith in
-    rw el (record { grown = growing-none top et; counted = counting-none tr tt'; judged = rw none })
+    rw el (record { grown = growing-none top et; counted = known-target _ h (counting-none tr tt'); judged = rw none })
 
 module _ {bs : List ℕ} {h : Header} {stack reads targets : List ℕ} {s : Scan} where
   pub scanned-more : (reads' targets' : List ℕ) (x : NodeRecord) (good stands : Bool) (e t name next j : ℕ)
       → Scanning bs h stack reads targets s → s .left ≡ j + 1 → h .nodes ≤ length stack → x ≡ nodeAt bs (nodesStart h + 12 * j)
       → good ≡ goodNode (recordsFrom (nameAt bs) 12 (h .names) 24) x
       → stands ≡ childrenStand x (drop (s .top) stack) → e ≡ nodeEntry x (drop (s .top) stack) → t + 1 ≡ s .top + min (x .children) (length stack - s .top)
-      → name ≡ recordRead x (s .next) → next ≡ targetName (nodeOf x) → length reads' ≡ length reads → length targets' ≡ length targets
+      → name ≡ recordRead x (targetBehind bs h (s .left)) → next ≡ targetName (nodeOf x) → length reads' ≡ length reads → length targets' ≡ length targets
       → Tally (λ k. one (eqb name k) + getD reads k 0) reads' → Tally (λ k. one (eqb next k) + getD targets k 0) targets'
-      → Scanning bs h (set stack t e) reads' targets' (record { nodes = good && s .nodes; trees = stands && s .trees; next = next; top = t; left = j })
+      → Scanning bs h (set stack t e) reads' targets' (record { nodes = good && s .nodes; trees = stands && s .trees; top = t; left = j })
   scanned-more reads' targets' x good stands e t name next j p ei long ex eg es ee et en ea lr lt tr tt' = record {
     grown = growing-more x stands e t j (p .grown) ei long ex es ee et;
-    counted = counting-more reads' targets' x name next j (p .counted) ei ex en ea lr lt tr tt';
+    counted = known-target bs h (counting-more reads' targets' x name next j (p .counted) ei ex en ea lr lt tr tt');
     judged =
         rw (one-more (nodeAt bs) 12 (h .nodes) (nodesStart h) (s .left) j ei (p .grown .within), ← ex, eg, p .judged)
         (sym (every-cons (goodNode (recordsFrom (nameAt bs) 12 (h .names) 24)) x _));
   }
 
-  pub scanned-plain : (reads' targets' : List ℕ) (x : NodeRecord) (children w t name j : ℕ)
-      → Scanning bs h stack reads targets s → s .left ≡ j + 1 → h .nodes ≤ length stack → x ≡ nodeAt bs (nodesStart h + 12 * j)
-      → Plain (h .names) x → children ≡ x .children → RootsFollow children (drop (s .top) stack) → w ≡ x .kind → t + 1 ≡ s .top + children
-      → name ≡ recordRead x (s .next) → length reads' ≡ length reads → length targets' ≡ length targets
-      → Tally (λ k. one (eqb name k) + getD reads k 0) reads' → Tally (λ k. one (eqb 65535 k) + getD targets k 0) targets'
-      → Scanning bs h (set stack t (2 * w)) reads' targets' (record { nodes = s .nodes; trees = s .trees; next = 65535; top = t; left = j })
-  unfolding entry
-  scanned-plain reads' targets' x children w t name j p ei long ex q ec f ew et en lr lt tr tt' =
-      let es = drop (s .top) stack in
-      let plain = plain-entry x es children ec f (rw (q .flagless)) in
-      scanned-more reads' targets' x true true (2 * w) t name 65535 j p ei long ex
-      (node-judged bs (h .names) true x refl (sym (q .good _)))
-      (plain-good x es children ec f (q .takes))
-      (rw (plain, ew) (omega arith))
-      (omega (arith, et, ec, f .0, length-drop (s .top) stack))
-      en (sym (q .aside)) lr lt tr tt'
+  -- a node that fits its row
+  module _ (reads' targets' : List ℕ) (x : NodeRecord) (row t j : ℕ) (p : Scanning bs h stack reads targets s) (ei : s .left ≡ j + 1)
+      (long : h .nodes ≤ length stack) (ex : x ≡ nodeAt bs (nodesStart h + 12 * j)) (f : Fits (h .names) x row)
+      (lr : length reads' ≡ length reads) (lt : length targets' ≡ length targets) where
+    scanned-fit : (e name next : ℕ) → true ≡ childrenStand x (drop (s .top) stack) → e ≡ nodeEntry x (drop (s .top) stack)
+        → t + 1 ≡ s .top + min (x .children) (length stack - s .top)
+        → name ≡ recordRead x (targetBehind bs h (s .left)) → next ≡ targetName (nodeOf x)
+        → Tally (λ k. one (eqb name k) + getD reads k 0) reads' → Tally (λ k. one (eqb next k) + getD targets k 0) targets'
+        → Scanning bs h (set stack t e) reads' targets' (record { nodes = s .nodes; trees = s .trees; top = t; left = j })
+    scanned-fit e name next es ee et en ea tr tt' =
+        scanned-more reads' targets' x true true e t name next j p ei long ex (node-judged bs (h .names) true x refl (sym (f .good _))) es ee et en ea lr lt tr tt'
+
+    pub scanned-leaf : (w : ℕ) → x .children ≡ 0 → w ≡ x .kind → t + 1 ≡ s .top
+        → Tally (λ k. one (eqb (recordRead x 65535) k) + getD reads k 0) reads' → Tally (λ k. one (eqb (targetName (nodeOf x)) k) + getD targets k 0) targets'
+        → Scanning bs h (set stack t (2 * w)) reads' targets' (record { nodes = s .nodes; trees = s .trees; top = t; left = j })
+    scanned-leaf w e ew et = scanned-fit (2 * w) (recordRead x 65535) (targetName (nodeOf x)) (leaf-stands x (drop (s .top) stack) e)
+        (ap (λ (k : ℕ). 2 * k) ew ∙ leaf-entry x (drop (s .top) stack) e (f .linked e)) (omega (arith, et, e))
+        (plain-read x 65535 (targetBehind bs h (s .left)) (row-of _ _ row (f .has) .plain)) refl
+
+    pub scanned-parent : {first later : List ℕ} → Sets first later → (children e : ℕ) → children ≡ x .children → (children ≡ 0 → ⊥)
+        → ChildrenFit (getD first row 0) (getD later row 0) children (drop (s .top) stack)
+        → e ≡ entry (x .kind) (not (eqb (x .kind) 13) && (optional (x .flags) || entryLoose (getD stack (s .top) 0))) → t + 1 ≡ s .top + children
+        → Tally (λ k. one (eqb 65535 k) + getD reads k 0) reads' → Tally (λ k. one (eqb 65535 k) + getD targets k 0) targets'
+        → Scanning bs h (set stack t e) reads' targets' (record { nodes = s .nodes; trees = s .trees; top = t; left = j })
+    scanned-parent sets children e ec some c ee et =
+        let named = f .named (omega arith) in
+        scanned-fit e 65535 65535 (row-stands sets x row (f .below) (f .has) children ec (drop (s .top) stack) c)
+        (ee ∙ row-entry sets x row (f .below) (f .has) children ec stack (s .top) (omega arith) (omega (arith, c .0, length-drop (s .top) stack)) c)
+        (omega (arith, et, ec, c .0, length-drop (s .top) stack))
+        (sym (unnamed-read x (targetBehind bs h (s .left)) named (row-of _ _ row (f .has) .plain)))
+        (sym (unnamed-target x named))
 
   -- no count reaches the number of nodes
   pub reads-few : HeaderPasses bs h → Scanning bs h stack reads targets s → (k : ℕ) → getD reads k 0 < 65535
@@ -83,9 +100,9 @@ module _ {bs : List ℕ} {h : Header} {stack reads targets : List ℕ} {s : Scan
   pub place-left : Scanning bs h stack reads targets s → h .nodes ≤ length stack → s .left ≤ s .top
   place-left p long = omega (arith, p .grown .room, long)
 
--- as many entries as follow are on the stack
-pub follow-room : (stack : List ℕ) (top many : ℕ) → top ≤ length stack → RootsFollow many (drop top stack) → top + many ≤ length stack
-follow-room stack top many h f = omega (arith, h, f .0, length-drop top stack)
+-- as many entries as are taken are on the stack
+pub fit-room : (stack : List ℕ) (top many : ℕ) → top ≤ length stack → many ≤ length (drop top stack) → top + many ≤ length stack
+fit-room stack top many h f = omega (arith, h, f, length-drop top stack)
 
 -- a loop that takes nodes: what it knows, and that none is added
 pub record Going (bs : List ℕ) (h : Header) (stack₀ reads₀ targets₀ stack reads targets : List ℕ) (most : ℕ) (s : Scan) : Type 0 where
@@ -130,28 +147,3 @@ module _ {bs : List ℕ} {h : Header} {stack reads targets : List ℕ} {s : Scan
 
   pub scanned-targets : Tally (λ k. targetsOf k (rowOf (nodesOf bs))) targets
   scanned-targets = subst (λ (ns : List NodeRecord). Tally (λ k. targetsOf k (rowOf ns)) targets) same-nodes (counted-targets (p .counted) e)
-
--- a name, where the node is no target
-named-fits : (a b l : Bool) → b ≡ false → (not a || l) ≡ true → (not (a || b) || l) ≡ true
-named-fits true b l e h = h
-named-fits false b l e h = rw e
-
--- the tests of a plain node
-abbrev pub special : ℕ → Bool
-special k = eqb k 13 || eqb k 20 || eqb k 22 || eqb k 26 || eqb k 29
-
-pub plain-node : (names : ℕ) (n : NodeRecord) → n .flags ≡ 0 → n .kind ≤ 30 → special (n .kind) ≡ false
-    → (not (eqb (n .kind) 4) || ltb (n .label) names) ≡ true
-    → getD fewest (n .kind) 0 ≤ n .children → n .children ≤ getD most (n .kind) 0 → n .zero ≡ 0 → not (eqb (n .position) noPosition) ≡ true → Plain names n
-unfolding goodNodeOf goodFlags goodChildren targetName nodeOf
-plain-node names n f k s nm lo hi z p =
-    let a = neither (eqb (n .kind) 13 || eqb (n .kind) 20 || eqb (n .kind) 22 || eqb (n .kind) 26) (eqb (n .kind) 29) s in
-    let b = neither (eqb (n .kind) 13 || eqb (n .kind) 20 || eqb (n .kind) 22) (eqb (n .kind) 26) (a .0) in
-    record {
-      good =
-          λ nameFlags.
-          rw (le-leb (n .kind) 30 k, named-fits (eqb (n .kind) 4) (eqb (n .kind) 29) (ltb (n .label) names) (a .1) nm, eq-eqb (n .zero) 0 z, p, f, le-leb _ _ lo, le-leb _ _ hi, b .1);
-      takes = takes-expressions (n .kind) (ap not (a .0));
-      flagless = f;
-      aside = rw (a .1);
-    }

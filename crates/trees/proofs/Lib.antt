@@ -2,4 +2,3 @@
 pub mod Rows
 pub mod Stacks
 pub mod Growth
-pub mod Plain

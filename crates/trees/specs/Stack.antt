@@ -1,15 +1,14 @@
 -- What is kept of each tree of a row while the nodes before it are checked: its root's kind, and whether it is loose.
-use Prim.Native.Nat.{ℕ, _+_, _*_, _/_, _%_, _≤_}
-use mathlib.Core.Path.{_≡_}
-use mathlib.Core.Bool.{Bool, true, false, _&&_, _||_, not}
+use Prim.Native.Nat.{ℕ, _+_, _*_, _/_, _%_}
+use mathlib.Core.Bool.{Bool, false, _&&_, _||_, not}
 use mathlib.Core.List.{List, [], _∷_}
 use lib.ListN.{length, getD, take, drop}
 use lib.Dec.{eqb, leb}
 use Rattle.records.specs.Flags.{optional}
-use Rattle.records.specs.Records.{every, everyFrom}
+use Rattle.records.specs.Records.{everyFrom}
 use Rattle.records.specs.File.{one}
 use Rattle.records.specs.Node.{isLink}
-use Rattle.records.specs.Tree.{Node, Tree, Trees, none, more}
+use Rattle.records.specs.Tree.{Trees, none, more}
 use Rattle.records.specs.Place.{root, loose, isExpression, mayStand, mayBeLoose}
 use Rattle.records.specs.declared.layout.NodeRecord.{NodeRecord}
 
@@ -55,11 +54,3 @@ rootStands e = isExpression (entryKind e) && not (entryLoose e)
 -- the entry at a place of a stack
 unfoldable pub entryAt : List ℕ → ℕ → ℕ
 entryAt stack at = getD stack at 0
-
--- a kind under which an expression that isn't loose may be any child
-abbrev pub TakesExpressions : ℕ → Type 0
-TakesExpressions kind = (flags i e : ℕ) → rootStands e ≡ true → childStands kind flags i e ≡ true
-
--- so many entries there are, each of which may be a statement's tree
-abbrev pub RootsFollow : ℕ → List ℕ → Type 0
-RootsFollow many es = (many ≤ length es) × (every rootStands (take many es) ≡ true)

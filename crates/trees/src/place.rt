@@ -1,12 +1,11 @@
 // Row 8 of the refusal table, node by node: where a child may stand.
 ghost use mathlib.Core.Path.{_≡_};
-ghost use mathlib.Core.Bool.{true};
 ghost use Prim.Native.Nat.{_+_, _≤_};
 ghost use lib.ListN.{length};
 ghost use Rattle.records.specs.Records.{recordsFrom, every, everyFrom};
 ghost use Rattle.records.specs.Node.{isLink as isLinkKind};
 ghost use Rattle.records.specs.Place.{isExpression, mayStand, mayBeLoose};
-ghost use Rattle.trees.specs.Stack.{entry as entryOf, entryAt, childStands, rootStands, TakesExpressions};
+ghost use Rattle.trees.specs.Stack.{entry as entryOf, entryAt, childStands, rootStands};
 
 pub fn is_expression(kind: u16) -> bool
     ensures { λ r. ⌜ r ≡ isExpression kind ⌝ }
@@ -82,13 +81,6 @@ pub fn root_stands(e: u16) -> bool
 {
     let loose = e % 2 == 1;
     is_expression(e / 2) & !loose
-}
-
-// A kind under which an expression that isn't loose may be any child.
-pub fn takes_expressions(kind: u8) -> bool
-    ensures { λ r. ⌜ (r ≡ true → TakesExpressions kind) ⌝ }
-{
-    !((kind == 13) | (kind == 20) | (kind == 22) | (kind == 26))
 }
 
 // Whether the children, whose entries stand at `top`, may stand under their parent.

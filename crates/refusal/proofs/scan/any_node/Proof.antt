@@ -1,9 +1,11 @@
 -- `refusal::scan::any_node` meets its contract. Assumes nothing.
-use mathlib.Core.Path.{sym, ap, _∙_}
+use mathlib.Core.Path.{ap, _∙_}
 use Prim.Native.Nat.{ℕ, _+_, _-_, _*_}
 use native.Mathlib.Omega.{arith}
 use Rattle.records.specs.Record.{nodeAt}
+use Rattle.uses.specs.Tally.{recordRead}
 use Rattle.refusal.proofs.Scans.{scanned-more, reads-few, targets-few, place-left, nodes-inside, names-inside}
+use borrow.Author.Needs.{needs}
 use borrow.Author.Needs.{needs}
 use Rattle.refusal.proofs.scan.any_node.Statement.{statement}
 use Rattle.refusal.proofs.scan.any_node.Tie as tie
@@ -26,13 +28,13 @@ add-node-at : tie.Need-add-node-at
 add-node-at c = search needs
 
 node-at-requires : tie.Need-node-at-requires
-node-at-requires c κs = omega (arith, nodes-inside ((c .before .before .before .before .before .before .before) .pre .0) ((c .before .before .before .before .before .before .before) .args .s .left) ((c .before .before .before .before .before .before .before) .pre .1 .1 .1 .1 .1 .0 .grown .within), (c .before .before .before .before .before .before .before) .pre .1 .0, (c .before .before .before .before .before .before .before) .pre .1 .1 .1 .1 .1 .1)
+node-at-requires c κs = omega (arith, nodes-inside ((c .before .before .before .before .before .before .before) .pre .0) ((c .before .before .before .before .before .before .before) .args .s .left) ((c .before .before .before .before .before .before .before) .pre .1 .1 .1 .1 .1 .0 .grown .within), (c .before .before .before .before .before .before .before) .pre .1 .0, (c .before .before .before .before .before .before .before) .pre .1 .1 .1 .1 .1 .1 .0)
 
 node-is-good-requires : tie.Need-node-is-good-requires
 node-is-good-requires c κs = (names-inside ((c .before .before .before .before .before .before .before .before) .pre .0), ((c .before .before .before .before .before .before .before .before) .pre .1 .1 .0, (c .before .before .before .before .before .before .before .before) .pre .1 .1 .1 .0))
 
 node-stands-requires : tie.Need-node-stands-requires
-node-stands-requires c κs = (omega (arith, place-left ((c .before .before .before .before .before .before .before .before .before .before) .pre .1 .1 .1 .1 .1 .0) ((c .before .before .before .before .before .before .before .before .before .before) .pre .1 .1 .1 .1 .0), (c .before .before .before .before .before .before .before .before .before .before) .pre .1 .1 .1 .1 .1 .1), (c .before .before .before .before .before .before .before .before .before .before) .pre .1 .1 .1 .1 .1 .0 .grown .inside)
+node-stands-requires c κs = (omega (arith, place-left ((c .before .before .before .before .before .before .before .before .before .before) .pre .1 .1 .1 .1 .1 .0) ((c .before .before .before .before .before .before .before .before .before .before) .pre .1 .1 .1 .1 .0), (c .before .before .before .before .before .before .before .before .before .before) .pre .1 .1 .1 .1 .1 .1 .0), (c .before .before .before .before .before .before .before .before .before .before) .pre .1 .1 .1 .1 .1 .0 .grown .inside)
 
 mul-stack : tie.Need-mul-stack
 mul-stack c = omega (arith, (c .before .before .before .before .before .before .before .before .before .before .before) .good, (c .node-stands) .ensures .1 .1, (c .before .before .before .before .before .before .before .before .before .before .before) .pre .1 .1 .1 .1 .1 .0 .grown .inside)
@@ -50,7 +52,7 @@ target-name-requires : tie.Need-target-name-requires
 target-name-requires c κs = search needs
 
 bump-requires-2 : tie.Need-bump-requires-2
-bump-requires-2 c κs = targets-few ((c .before .before .before .before .before .before .before .before .before .before .before .before .before .before .before .before .before .before) .pre .0) ((c .before .before .before .before .before .before .before .before .before .before .before .before .before .before .before .before .before .before) .pre .1 .1 .1 .1 .1 .0) ((c .before .target-name) .result)
+bump-requires-2 c κs = targets-few ((c .before .before .before .before .before .before .before .before .before .before .before .before .before .before .before .before .before .before) .pre .0) ((c .before .before .before .before .before .before .before .before .before .before .before .before .before .before .before .before .before .before) .pre .1 .1 .1 .1 .1 .0) ((c .target-name) .result)
 
 same-length : tie.Need-same-length
 same-length c = search needs
@@ -64,10 +66,10 @@ same-length-3 c = search needs
 returns : tie.Need-returns
 returns c =
     let a = (c .before .before .before .before .before .before .before .before .before .before .before .before .before .before .before .before .before .before .before .before .before .before .before .before) .args in (
-      scanned-more _ _ ((c .before .before .before .before .before .before .before .before .before .before .before .before .before .before .before .before .node-at) .result) ((c .before .before .before .before .before .before .before .before .before .before .before .before .before .before .before .node-is-good) .result) _ _ _ ((c .before .before .before .before .before .before .before .before .before .before .before .name-read) .result) ((c .before .before .before .before .before .before .before .target-name) .result) (a .s .left - 1) ((c .before .before .before .before .before .before .before .before .before .before .before .before .before .before .before .before .before .before .before .before .before .before .before .before) .pre .1 .1 .1 .1 .1 .0) (omega (arith, (c .before .before .before .before .before .before .before .before .before .before .before .before .before .before .before .before .before .before .before .before .before .before .before .before) .pre .1 .1 .1 .1 .1 .1)) ((c .before .before .before .before .before .before .before .before .before .before .before .before .before .before .before .before .before .before .before .before .before .before .before .before) .pre .1 .1 .1 .1 .0)
+      scanned-more _ _ ((c .before .before .before .before .before .before .before .before .before .before .before .before .before .before .before .before .node-at) .result) ((c .before .before .before .before .before .before .before .before .before .before .before .before .before .before .before .node-is-good) .result) _ _ _ ((c .before .before .before .before .before .before .before .before .before .before .before .name-read) .result) ((c .before .before .before .before .before .before .target-name) .result) (a .s .left - 1) ((c .before .before .before .before .before .before .before .before .before .before .before .before .before .before .before .before .before .before .before .before .before .before .before .before) .pre .1 .1 .1 .1 .1 .0) (omega (arith, (c .before .before .before .before .before .before .before .before .before .before .before .before .before .before .before .before .before .before .before .before .before .before .before .before) .pre .1 .1 .1 .1 .1 .1 .0)) ((c .before .before .before .before .before .before .before .before .before .before .before .before .before .before .before .before .before .before .before .before .before .before .before .before) .pre .1 .1 .1 .1 .0)
           ((c .before .before .before .before .before .before .before .before .before .before .before .before .before .before .before .before .node-at) .ensures ∙ ap (λ (m : ℕ). nodeAt (a .file .now) (m + 12 * (a .s .left - 1))) ((c .before .before .before .before .before .before .before .before .before .before .before .before .before .before .before .before .before .before .before .before .before .before .before .before) .pre .1 .0)) ((c .before .before .before .before .before .before .before .before .before .before .before .before .before .before .before .node-is-good) .ensures) ((c .before .before .before .before .before .before .before .before .before .before .before .before .before .node-stands) .ensures .0) ((c .before .before .before .before .before .before .before .before .before .before .before .before .before .node-stands) .ensures .1 .0) ((c .before .before .before .before .before .before .before .before .before .before .before .before .before .node-stands) .ensures .1 .1)
-          ((c .before .before .before .before .before .before .before .before .before .before .before .name-read) .ensures) ((c .before .before .before .before .before .before .before .target-name) .ensures) (omega arith) (omega arith) ((c .before .before .before .before .before .before .before .before .before .before .bump) .ensures) ((c .before .before .before .before .before .bump2) .ensures),
-      omega (arith, (c .before .before .before .before .before .before .before .before .before .before .before .before .before .before .before .before .before .before .before .before .before .before .before .before) .pre .1 .1 .1 .1 .1 .1),
+          ((c .before .before .before .before .before .before .before .before .before .before .before .name-read) .ensures ∙ ap (recordRead ((c .before .before .before .before .before .before .before .before .before .before .before .before .before .before .before .before .node-at) .result)) ((c .before .before .before .before .before .before .before .before .before .before .before .before .before .before .before .before .before .before .before .before .before .before .before .before) .pre .1 .1 .1 .1 .1 .1 .1)) ((c .before .before .before .before .before .before .target-name) .ensures) (omega arith) (omega arith) ((c .before .before .before .before .before .before .before .before .before .before .bump) .ensures) ((c .before .before .before .before .before .bump2) .ensures),
+      omega (arith, (c .before .before .before .before .before .before .before .before .before .before .before .before .before .before .before .before .before .before .before .before .before .before .before .before) .pre .1 .1 .1 .1 .1 .1 .0),
     )
 
 pub any-node-spec : {M : Type 1} → statement M

@@ -1,62 +1,66 @@
 -- `trees::tree::node_stands` meets its contract. Assumes nothing.
-use mathlib.Core.Path.{sym, _∙_}
-use mathlib.Core.Bool.{not}
+use mathlib.Core.Path.{_∙_}
 use native.Mathlib.Omega.{arith}
-use lib.ListN.{drop, length-drop}
-use borrow.Author.Tests.{not-true}
-use Rattle.records.specs.Flags.{optional}
-use Rattle.records.proofs.Tests.{both}
-use Rattle.trees.proofs.Plain.{plain-good, plain-entry}
+use lib.ListN.{length-drop}
+use Rattle.trees.specs.Stack.{childrenStand, nodeEntry}
+use Rattle.trees.proofs.Stacks.{taken-part}
 use borrow.Author.Needs.{needs}
 use Rattle.trees.proofs.tree.node_stands.Statement.{statement}
 use Rattle.trees.proofs.tree.node_stands.Tie as tie
 
-takes-expressions-requires : tie.Need-takes-expressions-requires
-takes-expressions-requires c κs = search needs
+sub-trees : tie.Need-sub-trees
+sub-trees c = search needs
 
 size-requires : tie.Need-size-requires
 size-requires c κs = search needs
 
-roots-follow-requires : tie.Need-roots-follow-requires
-roots-follow-requires c κs = search needs
+least-requires : tie.Need-least-requires
+least-requires c κs = search needs
+
+children-stand-requires : tie.Need-children-stand-requires
+children-stand-requires c κs = search needs
+
+wide-requires : tie.Need-wide-requires
+wide-requires c κs = search needs
+
+is-link-requires : tie.Need-is-link-requires
+is-link-requires c κs = search needs
+
+first-is-loose-requires : tie.Need-first-is-loose-requires
+first-is-loose-requires c κs = search needs
 
 entry-requires : tie.Need-entry-requires
 entry-requires c κs = search needs
 
-add-t13 : tie.Need-add-t13
-add-t13 c = search needs
+add-t11 : tie.Need-add-t11
+add-t11 c = search needs
 
-sub-t14 : tie.Need-sub-t14
-sub-t14 c = search needs
+sub-t18 : tie.Need-sub-t18
+sub-t18 c = search needs
 
 returns : tie.Need-returns
+unfolding childrenStand nodeEntry
 returns c =
-    let a = (c .before .before .before .before .before .before .before .before) .args in
-    let p = both ((c .before .before .before .before .before .takes-expressions) .result) (not (optional (a .n .flags))) ((c .before .before .before .before .if1) .taken) in
-    let f = (c .before .before .roots-follow) .ensures ((c .before .if2) .taken) in (
-      plain-good (a .n) (drop (a .top) (a .stack .now)) ((c .before .before .before .size) .result) ((c .before .before .before .size) .ensures .0) f ((c .before .before .before .before .before .takes-expressions) .ensures (p .0)),
+    let part = taken-part ((c .before .before .before .before .before .before .before .before .before) .args .stack .now) ((c .before .before .before .before .before .before .before .before .before) .args .n .children) ((c .before .before .before .before .before .before .before .before .before) .args .top) ((c .before .before .before .before .before .before .least) .result) (omega arith) (omega arith) in (
+      rw ((c .before .before .before .before .before .children-stand) .ensures, part, length-drop ((c .before .before .before .before .before .before .before .before .before) .args .top) ((c .before .before .before .before .before .before .before .before .before) .args .stack .now), (c .before .before .before .before .before .before .before .size) .ensures .0),
       (
-        (c .entry) .ensures ∙ sym (plain-entry (a .n) (drop (a .top) (a .stack .now)) ((c .before .before .before .size) .result) ((c .before .before .before .size) .ensures .0) f (not-true (optional (a .n .flags)) (p .1))),
-        omega (arith, f .0, length-drop (a .top) (a .stack .now)),
+        (c .entry) .ensures ∙ rw ((c .before .before .is-link) .ensures, (c .before .before .before .wide) .ensures .0, (c .before .first-is-loose) .ensures, part),
+        omega arith,
       ),
     )
-
-any-node-stands-requires : tie.Need-any-node-stands-requires
-any-node-stands-requires c κs = search needs
-
-returns-2 : tie.Need-returns-2
-returns-2 c = search needs
 
 pub node-stands-spec : {M : Type 1} → statement M
 node-stands-spec =
     tie.close
     (tie.spec
-    takes-expressions-requires
+    sub-trees
     size-requires
-    roots-follow-requires
+    least-requires
+    children-stand-requires
+    wide-requires
+    is-link-requires
+    first-is-loose-requires
     entry-requires
-    add-t13
-    sub-t14
-    returns
-    any-node-stands-requires
-    returns-2)
+    add-t11
+    sub-t18
+    returns)

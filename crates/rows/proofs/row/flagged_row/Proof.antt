@@ -1,0 +1,48 @@
+-- `rows::row::flagged_row` meets its contract. Assumes nothing.
+use Rattle.rows.proofs.Rows.{same-row, same-kind-row}
+use borrow.Author.Needs.{needs}
+use Rattle.rows.proofs.row.flagged_row.Statement.{statement}
+use Rattle.rows.proofs.row.flagged_row.Tie as tie
+use Rattle.rows.proofs.row.flagged_row.Reads as reads
+use Rattle.rows.proofs.row.flagged_row.Lts as lts
+use Rattle.rows.proofs.row.anonymous_row.Reads as anonymous-row-reads
+use Rattle.rows.proofs.row.link_row.Reads as link-row-reads
+use Rattle.rows.proofs.row.marked_row.Reads as marked-row-reads
+use Rattle.rows.proofs.row.property_row.Reads as property-row-reads
+
+marked-row-requires : tie.Need-marked-row-requires
+marked-row-requires c κs = search needs
+
+returns : tie.Need-returns
+returns c = λ l. same-row _ _ ((c .before .before .before) .args .n .flags) 1 ((c .before .if1) .taken) ((c .marked-row) .ensures l)
+
+property-row-requires : tie.Need-property-row-requires
+property-row-requires c κs = search needs
+
+returns-2 : tie.Need-returns-2
+returns-2 c = λ l. same-kind-row ((c .before .before .before .before .before) .args .n .kind) 26 _ _ ((c .before .if2) .taken) ((c .property-row) .ensures l)
+
+link-row-requires : tie.Need-link-row-requires
+link-row-requires c κs = search needs
+
+returns-3 : tie.Need-returns-3
+returns-3 c = λ l. (c .link-row) .ensures l
+
+anonymous-row-requires : tie.Need-anonymous-row-requires
+anonymous-row-requires c κs = search needs
+
+returns-4 : tie.Need-returns-4
+returns-4 c = λ l. (c .anonymous-row) .ensures l
+
+pub flagged-row-spec : {M : Type 1} → statement M
+flagged-row-spec =
+    tie.close
+    (tie.spec
+    marked-row-requires
+    returns
+    property-row-requires
+    returns-2
+    link-row-requires
+    returns-3
+    anonymous-row-requires
+    returns-4)

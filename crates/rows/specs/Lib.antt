@@ -1,0 +1,2 @@
+-- The rows of the tables.
+pub mod Rows
