@@ -21,21 +21,11 @@ pub record FileRow (file : List ℕ) (from at : ℕ) (ts : Trees) (total : ℕ) 
 abbrev pub FileTree : List ℕ → ℕ → ℕ → Tree → ℕ → List NodeRecord → List NodeRecord → Type 0
 FileTree file from at t total before behind = FileRow file from at (more t none) total before behind
 
--- some tree stands there
-abbrev pub HoldsTree : List ℕ → ℕ → ℕ → Type 0
-HoldsTree file from at =
-    (t : Tree) × (total : ℕ) × (before : List NodeRecord) × (behind : List NodeRecord) × FileTree file from at t total before behind
-
--- and there is room for it in the table, behind the nodes that are in use
+-- some tree stands there, and there is room for it in the table, behind the nodes that are in use
 abbrev pub HasRoom : List ℕ → ℕ → ℕ → List ℕ → ℕ → Type 0
 HasRoom file from at table used =
     (t : Tree) × (total : ℕ) × (before : List NodeRecord) × (behind : List NodeRecord) × FileTree file from at t total before behind
     × (16 * used + 16 * size t ≤ length table)
-
--- how many nodes it has
-abbrev pub Counts : List ℕ → ℕ → ℕ → ℕ → Type 0
-Counts file from at many =
-    (t : Tree) (total : ℕ) (before behind : List NodeRecord) → FileTree file from at t total before behind → many ≡ size t
 
 -- The table after: the tree stands behind the nodes that were in use, in the place of as many bytes.
 abbrev pub Loads : List ℕ → ℕ → ℕ → List ℕ → List ℕ → ℕ → ℕ → Type 0

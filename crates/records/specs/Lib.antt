@@ -4,6 +4,7 @@ pub mod Records
 pub mod Record
 pub mod Limits
 pub mod Flags
+pub mod Sets
 pub mod Tree
 pub mod File
 pub mod Header

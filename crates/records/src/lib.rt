@@ -6,3 +6,4 @@ pub mod limits;
 pub mod node;
 pub mod number;
 pub mod script;
+pub mod set;

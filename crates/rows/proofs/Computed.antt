@@ -2,14 +2,12 @@
 use mathlib.Core.Path.{_≡_}
 use mathlib.Core.Bool.{Bool, true, not, _||_}
 use mathlib.Core.List.{List}
-use Prim.Native.Nat.{ℕ, _/_, _%_, _^_, _≤_, _<_}
+use Prim.Native.Nat.{ℕ, _≤_, _<_}
 use lib.ListN.{length, getD}
-use lib.Dec.{eqb, ltb}
-use borrow.Author.Tests.{ltb-true}
-use Rattle.records.proofs.Tests.{and-left}
 use Rattle.trees.specs.Stack.{childStands}
-use Rattle.rows.specs.Rows.{isIn, rowKind, rowFlags, goodRange, Ranges, Sets}
-use Rattle.rows.proofs.Rows.{allBelow, below, follows}
+use Rattle.records.specs.Sets.{isIn}
+use Rattle.records.proofs.Sets.{allBelow, below, follows, low-bit}
+use Rattle.rows.specs.Rows.{rowKind, rowFlags, goodRange, Ranges, Sets}
 
 pub ranges-good : (few many : List ℕ) → 33 ≤ length few → 33 ≤ length many → allBelow 33 (λ row. goodRange row (getD few row 0) (getD many row 0)) ≡ true
     → Ranges few many
@@ -18,10 +16,6 @@ ranges-good few many f m t = record { rows = f; ends = m; good = below 33 (λ ro
 -- whatever is in the set of a row may stand as the child of this number
 abbrev pub standsAs : ℕ → List ℕ → ℕ → ℕ → Bool
 standsAs i sets row e = not (isIn (getD sets row 0) e) || childStands (rowKind row) (rowFlags row) i e
-
-low-bit : (set e : ℕ) → isIn set e ≡ true → e < 64
-unfolding isIn
-low-bit set e h = ltb-true e 64 (and-left (ltb e 64) (eqb (set / 2 ^ e % 2) 1) h)
 
 stands-as : (i : ℕ) (sets : List ℕ) → allBelow 33 (λ row. allBelow 64 (standsAs i sets row)) ≡ true
     → (row e : ℕ) → row < 33 → isIn (getD sets row 0) e ≡ true → childStands (rowKind row) (rowFlags row) i e ≡ true

@@ -14,34 +14,9 @@ use Rattle.records.specs.Flags.{marked, unresolved, compound}
 use Rattle.records.specs.Node.{fewest, most, isLink, isNamed, twoChildren, goodFlags, mayMark, goodChildren, goodNodeOf}
 use Rattle.records.specs.declared.layout.NodeRecord.{NodeRecord}
 use Rattle.records.proofs.Tests.{both}
-use Rattle.rows.specs.Rows.{isIn, rowKind, rowFlags, rowChildren, bare, inRow, goodRange, Ranges, Fits}
-
--- every number below n passes a test
-unfoldable pub allBelow : ℕ → (ℕ → Bool) → Bool
-allBelow zero p = true
-allBelow (suc n) p = p n && allBelow n p
-
-pub below : (n : ℕ) (p : ℕ → Bool) → allBelow n p ≡ true → (k : ℕ) → k < n → p k ≡ true
-unfolding allBelow
-below zero p h k l = absurd (omega arith)
-below (suc n) p h k l =
-    let q = both (p n) (allBelow n p) h in
-    let m : k ≤ n = omega arith in
-    ⊎-elim (λ (e : k ≡ n). ap p e ∙ q .0) (λ (s : k < n). below n p (q .1) k s) (eq-or-lt-of-le m)
-
--- what follows from a test
-pub follows : (a b : Bool) → (not a || b) ≡ true → a ≡ true → b ≡ true
-follows true b h e = h
-follows false b h e = absurd (false≢true e)
-
--- a bit of a set, by the tests of the code
-pub bit-past : (set e : ℕ) → 63 < e → false ≡ isIn set e
-unfolding isIn
-bit-past set e h = rw (le-ltb e 64 (omega arith))
-
-pub bit-inside : (set e : ℕ) → e ≤ 63 → eqb (set / 2 ^ e % 2) 1 ≡ isIn set e
-unfolding isIn
-bit-inside set e h = rw (lt-ltb e 64 (omega arith))
+use Rattle.records.specs.Sets.{isIn}
+use Rattle.records.proofs.Sets.{allBelow, below, follows}
+use Rattle.rows.specs.Rows.{rowKind, rowFlags, rowChildren, bare, inRow, goodRange, Ranges, Fits}
 
 -- the rows of the kinds
 pub flagless-row : (k r : ℕ) → k ≤ 30 → r ≡ k → inRow k 0 r ≡ true

@@ -16,7 +16,8 @@ use Rattle.records.specs.declared.layout.NodeRecord.{NodeRecord}
 use Rattle.records.proofs.Tests.{both, and-left, and-right}
 use Rattle.trees.specs.Stack.{entry, entryAt, entryLoose, childStands, firstLoose, childrenStand, nodeEntry}
 use Rattle.trees.proofs.Stacks.{entries-part}
-use Rattle.rows.specs.Rows.{isIn, rowKind, rowFlags, bare, inRow, Sets, inSets, ChildrenFit}
+use Rattle.records.specs.Sets.{isIn}
+use Rattle.rows.specs.Rows.{rowKind, rowFlags, bare, inRow, Sets, inSets, ChildrenFit}
 use Rattle.rows.proofs.Rows.{row-of}
 
 -- only the bit of a shorthand is asked of the flags, and of a child's number only whether it is the first

@@ -1,5 +1,5 @@
 -- The row of small tables that judges a node, and what the tables must say.
-use Prim.Native.Nat.{ℕ, _/_, _%_, _^_, _≤_, _<_}
+use Prim.Native.Nat.{ℕ, _/_, _%_, _≤_, _<_}
 use mathlib.Core.Path.{_≡_}
 use mathlib.Core.Bool.{Bool, true, false, cond, _&&_, _||_, not}
 use mathlib.Core.List.{List}
@@ -7,13 +7,10 @@ use lib.ListN.{length, getD, take}
 use lib.Dec.{eqb, ltb, leb}
 use Rattle.records.specs.Flags.{marked, compound}
 use Rattle.records.specs.Records.{everyFrom}
+use Rattle.records.specs.Sets.{isIn}
 use Rattle.records.specs.Node.{fewest, most, isLink, isNamed, twoChildren, goodFlags, mayMark, goodNodeOf}
 use Rattle.records.specs.declared.layout.NodeRecord.{NodeRecord}
 use Rattle.trees.specs.Stack.{childStands}
-
--- a bit of a set
-unfoldable pub isIn : ℕ → ℕ → Bool
-isIn set e = ltb e 64 && eqb (set / 2 ^ e % 2) 1
 
 -- rows 0 to 30 are of their kinds, 31 and 32 of kind 26
 unfoldable pub rowKind : ℕ → ℕ

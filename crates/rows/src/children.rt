@@ -7,9 +7,10 @@ ghost use lib.Dec.{eqb};
 ghost use Rattle.records.specs.Flags.{optional as isOptional};
 ghost use Rattle.records.specs.Records.{recordsFrom, every};
 ghost use Rattle.trees.specs.Stack.{entry as entryOf, entryAt, entryLoose};
-ghost use Rattle.rows.specs.Rows.{isIn, ChildrenFit};
-use crate::set::is_in;
+ghost use Rattle.records.specs.Sets.{isIn};
+ghost use Rattle.rows.specs.Rows.{ChildrenFit};
 use records::layout::NodeRecord;
+use records::set::is_in;
 use trees::place::entry;
 
 // Whether a set has each of so many entries.

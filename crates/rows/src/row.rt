@@ -3,11 +3,11 @@ ghost use mathlib.Core.Path.{_≡_};
 ghost use mathlib.Core.Bool.{true};
 ghost use Prim.Native.Nat.{_≤_, _<_};
 ghost use Rattle.rows.specs.Rows.{inRow, Ranges, Fits};
-use crate::set::is_in;
 use records::layout::NodeRecord;
 use records::limits::NO_POSITION;
 use records::number::size;
 use records::number::wide;
+use records::set::is_in;
 
 // Rows 0 to 30 are the kinds, 31 is a property with two children, and 32 a shorthand property. A node that no row judges has
 // this one.

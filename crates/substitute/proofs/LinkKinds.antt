@@ -1,15 +1,16 @@
 -- The kinds of nodes that are links, where they have children. Assumes nothing.
-use Prim.Native.Nat.{ℕ, zero, suc, _+_, _*_, _/_, _%_, _^_, _<_}
-use native.Mathlib.Omega.{arith}
+use Prim.Native.Nat.{ℕ}
 use mathlib.Core.Bool.{Bool, true, false, cond, _&&_, _||_, not, true≢false}
 use mathlib.Core.Path.{_≡_, refl, sym, ap, _∙_, subst}
 use lib.Dec.{eqb, ltb}
-use borrow.Author.Tests.{not-true, ne-eqb, eqb-true, eqb-false}
+use borrow.Author.Tests.{not-true, ne-eqb, eqb-true}
 use Rattle.records.specs.Flags.{shorthand, computed, proto, optional}
 use Rattle.records.specs.Place.{root, isExpression}
+use Rattle.records.specs.Sets.{isIn}
 use Rattle.records.specs.Tree.{Tree, Trees, nodeOf}
 use Rattle.records.specs.File.{firstTree}
 use Rattle.records.specs.declared.layout.NodeRecord.{NodeRecord}
+use Rattle.records.proofs.Sets.{allBelow, below, follows, low-bit}
 use Rattle.records.proofs.Tests.{both, and-right, neither, clash}
 use Rattle.walk.specs.Shape.{is, isMemberExpression, Choice, never, skips, cuts, picks, chain, import, sequence, property, stopping, steps, shape, cleared}
 use Rattle.walk.specs.Looks.{ownLooks}
@@ -46,28 +47,10 @@ member-low k h =
     let at : (c : ℕ) → ltb c 25 ≡ true → eqb k c ≡ true → ltb k 25 ≡ true = λ c p e. ap (λ x. ltb x 25) (eqb-true k c e) ∙ p in
     either-way _ _ h (λ h. either-way _ _ h (at 10 refl) (at 11 refl)) (at 12 refl)
 
--- a test that holds of each number below some
-allBelow : ℕ → (ℕ → Bool) → Bool
-allBelow zero f = true
-allBelow (suc k) f = f k && allBelow k f
-
-one-below : (k : ℕ) (f : ℕ → Bool) → allBelow k f ≡ true → (i : ℕ) → i < k → f i ≡ true
-unfolding allBelow
-one-below zero f h i l = absurd (omega (arith, l))
-one-below (suc k) f h i l = at (eqb i k) refl (one-below k f (both (f k) (allBelow k f) h .1) i)
-  where
-    at : (b : Bool) → eqb i k ≡ b → (i < k → f i ≡ true) → f i ≡ true
-    at true e g = ap f (eqb-true i k e) ∙ both (f k) (allBelow k f) h .0
-    at false e g = g (omega (arith, l, eqb-false i k e))
-
--- the bits of the number that stands for the kinds
-pub bit-kind : (k : ℕ) → k < 32 → eqb (317668800 / 2 ^ k % 2) 1 ≡ true → linkKind k ≡ true
-unfolding linkKind allBelow
-bit-kind k l h = implied (eqb (317668800 / 2 ^ k % 2) 1) (linkKind k) h (one-below 32 (λ i. not (eqb (317668800 / 2 ^ i % 2) 1) || linkKind i) refl k l)
-  where
-    implied : (a b : Bool) → a ≡ true → (not a || b) ≡ true → b ≡ true
-    implied true b e h = h
-    implied false b e h = clash false refl e
+-- the set of these kinds
+pub set-kind : (k : ℕ) → isIn 317668800 k ≡ true → linkKind k ≡ true
+unfolding linkKind isIn allBelow
+set-kind k h = follows (isIn 317668800 k) (linkKind k) (below 64 (λ i. not (isIn 317668800 i) || linkKind i) refl k (low-bit 317668800 k h)) h
 
 module _ (n : NodeRecord) (s : Sought) (some : n .children ≡ 0 → ⊥) where
   -- what is no property stays as it is

@@ -13,18 +13,15 @@ use plans::sought::Sought;
 use records::layout::NodeRecord;
 use records::number::one;
 use records::number::wide;
-use records::number::wide16;
+use records::set::is_in;
 
-// The kinds whose children are searched from the first on, whatever they are, as the bits of a number.
-const LINKS: u32 = 0x12EF3DC0;
+// The kinds whose children are searched from the first on, whatever they are.
+const LINKS: u64 = 0x12ef_3dc0;
 
 fn is_link_kind(kind: u8) -> bool
     ensures { λ r. ⌜ (r ≡ true → linkKind kind ≡ true) ⌝ }
 {
-    if kind < 32 {
-        return (LINKS >> wide16(wide(kind))) % 2 == 1;
-    }
-    false
+    is_in(LINKS, wide(kind))
 }
 
 // A node with children, the first of which is searched first; its rule says nothing else of them. It is no shorthand, so that

@@ -5,8 +5,9 @@ use native.Mathlib.Omega.{arith}
 use Rattle.records.specs.Node.{fewest, most}
 use Rattle.records.specs.Place.{isExpression, mayStand, mayBeLoose}
 use Rattle.trees.specs.Stack.{childStands}
-use Rattle.rows.specs.Rows.{isIn, rowKind, rowFlags, rowChildren, goodRange}
-use Rattle.rows.proofs.Rows.{allBelow}
+use Rattle.records.specs.Sets.{isIn}
+use Rattle.rows.specs.Rows.{rowKind, rowFlags, rowChildren, goodRange}
+use Rattle.records.proofs.Sets.{allBelow}
 use Rattle.rows.proofs.Computed.{ranges-good, sets-good}
 use Rattle.refusal.proofs.Scans.{scanned-nodes, scanned-trees, scanned-stack, scanned-reads, scanned-targets}
 use borrow.Author.Needs.{needs}

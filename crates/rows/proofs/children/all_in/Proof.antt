@@ -7,12 +7,12 @@ use native.Mathlib.Nat.{one-mul}
 use borrow.Author.Tests.{not-false}
 use Rattle.records.proofs.Series.{Passed, passed-none, passed-more, passed-all}
 use Rattle.trees.specs.Stack.{entryAt}
-use Rattle.rows.specs.Rows.{isIn}
+use Rattle.records.specs.Sets.{isIn}
 use Rattle.rows.proofs.children.all_in.Statement.{statement}
 use Rattle.rows.proofs.children.all_in.Tie as tie
 use Rattle.rows.proofs.children.all_in.Reads as reads
 use Rattle.rows.proofs.children.all_in.Lts as lts
-use Rattle.rows.proofs.set.is_in.Reads as is-in-reads
+use Rattle.records.proofs.set.is_in.Reads as is-in-reads
 
 abbrev Inv-loop : tie.InvT-loop
 Inv-loop stack top count set i₀ i = Passed (λ k. isIn set) (entryAt stack) 1 count top true i

@@ -12,7 +12,7 @@ use Rattle.rows.proofs.children.children_fit.Tie as tie
 use Rattle.rows.proofs.children.children_fit.Reads as reads
 use Rattle.rows.proofs.children.children_fit.Lts as lts
 use Rattle.rows.proofs.children.all_in.Reads as all-in-reads
-use Rattle.rows.proofs.set.is_in.Reads as is-in-reads
+use Rattle.records.proofs.set.is_in.Reads as is-in-reads
 
 sub-if1 : tie.Need-sub-if1
 sub-if1 c = search needs

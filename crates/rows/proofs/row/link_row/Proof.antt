@@ -4,7 +4,8 @@ use borrow.Author.Tests.{not-false}
 use native.Mathlib.Omega.{arith}
 use Rattle.records.specs.Node.{goodFlags, mayMark}
 use Rattle.rows.specs.Rows.{inRow, rowKind, rowFlags, rowChildren}
-use Rattle.rows.proofs.Rows.{allBelow, link-row}
+use Rattle.records.proofs.Sets.{allBelow}
+use Rattle.rows.proofs.Rows.{link-row}
 use borrow.Author.Needs.{needs}
 use Rattle.rows.proofs.row.link_row.Statement.{statement}
 use Rattle.rows.proofs.row.link_row.Tie as tie

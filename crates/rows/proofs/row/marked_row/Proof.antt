@@ -2,8 +2,10 @@
 use mathlib.Core.Path.{refl}
 use native.Mathlib.Omega.{arith}
 use Rattle.records.specs.Node.{goodFlags, mayMark}
-use Rattle.rows.specs.Rows.{isIn, rowKind, rowFlags, rowChildren, inRow}
-use Rattle.rows.proofs.Rows.{allBelow, marked-row}
+use Rattle.records.specs.Sets.{isIn}
+use Rattle.rows.specs.Rows.{rowKind, rowFlags, rowChildren, inRow}
+use Rattle.records.proofs.Sets.{allBelow}
+use Rattle.rows.proofs.Rows.{marked-row}
 use borrow.Author.Needs.{needs}
 use Rattle.rows.proofs.row.marked_row.Statement.{statement}
 use Rattle.rows.proofs.row.marked_row.Tie as tie
@@ -11,7 +13,7 @@ use Rattle.rows.proofs.row.marked_row.Reads as reads
 use Rattle.rows.proofs.row.marked_row.Lts as lts
 use Rattle.records.proofs.number.size.Reads as size-reads
 use Rattle.records.proofs.number.wide.Reads as wide-reads
-use Rattle.rows.proofs.set.is_in.Reads as is-in-reads
+use Rattle.records.proofs.set.is_in.Reads as is-in-reads
 
 wide-requires : tie.Need-wide-requires
 wide-requires c κs = search needs

@@ -1,6 +1,6 @@
 // Sets of numbers below 64.
 ghost use mathlib.Core.Path.{_≡_};
-ghost use Rattle.rows.specs.Rows.{isIn};
+ghost use Rattle.records.specs.Sets.{isIn};
 
 // Whether a set has this bit.
 pub fn is_in(set: u64, bit: u16) -> bool
