@@ -19,16 +19,16 @@ use Rattle.plans.specs.Answers.{isPassed, isReplaced, byPassing}
 use Rattle.plans.specs.Shapes.{planned}
 use Rattle.plans.specs.Search.{SearchableRow, Searches}
 use Rattle.plans.specs.declared.plan.Plan.the-variants.{All}
-use Rattle.substitute.proofs.Either.{either-open}
-use Rattle.substitute.proofs.Row.{row-none, row-nothing, row-replaced, row-either, row-stopped}
-use Rattle.substitute.proofs.Searching.{searchable-stands, searchable-room, row-stands, first-searchable, here-found, tag-here}
-use Rattle.substitute.proofs.Nodes.{is-one-of, one-searched, node-searched, begun-row, others-searchable, row-room, row-looks-most, looks-in-room}
-use Rattle.substitute.specs.Links.{linkPlan, planBehind, Goes, OfRow, Within}
-use Rattle.substitute.specs.OfNode.{behind, movesLeaf, passesName}
-use Rattle.substitute.proofs.Chain.{plan-enters, children-row, link-searched, links-seen, behind-room, behind-row, behind-seen, behind-looks, plan-was, row-ended, row-branches, row-last, row-all, child-behind, within-looks, within-room, within-above, before-sooner, before-room, before-later, before-looks, within-link, within-child, within-all}
-use Rattle.substitute.proofs.Leaves.{or-first, leaf-by}
-use Rattle.substitute.proofs.Moving.{link-moved}
-use Rattle.substitute.proofs.Going.{goes-start, goes-on, goes-to}
+use Rattle.links.proofs.Either.{either-open}
+use Rattle.links.proofs.Row.{row-none, row-nothing, row-replaced, row-either, row-stopped}
+use Rattle.links.proofs.Searching.{searchable-stands, searchable-room, row-stands, first-searchable, here-found, tag-here}
+use Rattle.links.proofs.Nodes.{is-one-of, one-searched, node-searched, begun-row, others-searchable, row-room, row-looks-most, looks-in-room}
+use Rattle.links.specs.Links.{linkPlan, planBehind, Goes, OfRow, Within}
+use Rattle.links.specs.OfNode.{behind, movesLeaf, passesName}
+use Rattle.links.proofs.Chain.{plan-enters, children-row, link-searched, links-seen, behind-room, behind-row, behind-seen, behind-looks, plan-was, row-ended, row-branches, row-last, row-all, child-behind, within-looks, within-room, within-above, before-sooner, before-room, before-later, before-looks, within-link, within-child, within-all}
+use Rattle.links.proofs.Leaves.{or-first, leaf-by}
+use Rattle.links.proofs.Moving.{link-moved}
+use Rattle.links.proofs.Going.{goes-start, goes-on, goes-to}
 use Prim.Native.Nat.{ℕ, _<_}
 use borrow.Fn.Kinds.{In}
 use borrow.Fn.PlainCycle.{Measures, is, falls, and}
@@ -55,27 +55,27 @@ use Rattle.plans.proofs.plan.is_nothing.Reads as is-nothing-reads
 use Rattle.plans.proofs.plan.next_plan.Reads as next-plan-reads
 use Rattle.plans.proofs.walked.is_passed.Reads as is-passed-reads
 use Rattle.plans.proofs.walked.is_replaced.Reads as is-replaced-reads
-use Rattle.substitute.proofs.descent.behind_links.Reads as behind-links-reads
-use Rattle.substitute.proofs.descent.leaves_before.Reads as leaves-before-reads
+use Rattle.links.proofs.descent.behind_links.Reads as behind-links-reads
+use Rattle.links.proofs.above.node_above.Reads as node-above-reads
 use Rattle.substitute.proofs.expression.is_one.Reads as is-one-reads
-use Rattle.substitute.proofs.leaf.is_leaf.Reads as is-leaf-reads
-use Rattle.substitute.proofs.leaf.leaf_effect.Reads as leaf-effect-reads
-use Rattle.substitute.proofs.leaf.leaf_looks.Reads as leaf-looks-reads
-use Rattle.substitute.proofs.leaf.moves_leaf.Reads as moves-leaf-reads
-use Rattle.substitute.proofs.leaf.of_leaf.Reads as of-leaf-reads
-use Rattle.substitute.proofs.links.is_link.Reads as is-link-reads
-use Rattle.substitute.proofs.links.link_plan.Reads as link-plan-reads
-use Rattle.substitute.proofs.links.plan_behind.Reads as plan-behind-reads
-use Rattle.substitute.proofs.node.is_specific_id.Reads as is-specific-id-reads
-use Rattle.substitute.proofs.node.moves_link.Reads as moves-link-reads
-use Rattle.substitute.proofs.node.of_answered.Reads as of-answered-reads
-use Rattle.substitute.proofs.node.of_passed.Reads as of-passed-reads
-use Rattle.substitute.proofs.node.own_looks.Reads as own-looks-reads
-use Rattle.substitute.proofs.outcome.either.Reads as either-reads
-use Rattle.substitute.proofs.outcome.found.Reads as found-reads
-use Rattle.substitute.proofs.outcome.gathered.Reads as gathered-reads
-use Rattle.substitute.proofs.outcome.passed.Reads as passed-reads
-use Rattle.substitute.proofs.outcome.stopped.Reads as stopped-reads
+use Rattle.links.proofs.leaf.is_leaf.Reads as is-leaf-reads
+use Rattle.links.proofs.leaf.leaf_effect.Reads as leaf-effect-reads
+use Rattle.links.proofs.leaf.leaf_looks.Reads as leaf-looks-reads
+use Rattle.links.proofs.leaf.moves_leaf.Reads as moves-leaf-reads
+use Rattle.links.proofs.leaf.of_leaf.Reads as of-leaf-reads
+use Rattle.links.proofs.link.is_link.Reads as is-link-reads
+use Rattle.links.proofs.link.link_plan.Reads as link-plan-reads
+use Rattle.links.proofs.link.plan_behind.Reads as plan-behind-reads
+use Rattle.links.proofs.node.is_specific_id.Reads as is-specific-id-reads
+use Rattle.links.proofs.node.moves_link.Reads as moves-link-reads
+use Rattle.links.proofs.node.of_answered.Reads as of-answered-reads
+use Rattle.links.proofs.node.of_passed.Reads as of-passed-reads
+use Rattle.links.proofs.node.own_looks.Reads as own-looks-reads
+use Rattle.links.proofs.outcome.either.Reads as either-reads
+use Rattle.links.proofs.outcome.found.Reads as found-reads
+use Rattle.links.proofs.outcome.gathered.Reads as gathered-reads
+use Rattle.links.proofs.outcome.passed.Reads as passed-reads
+use Rattle.links.proofs.outcome.stopped.Reads as stopped-reads
 use Rattle.table.proofs.work_node.Reads as work-node-reads
 use Rattle.substitute.proofs.expression.+behind_child+substitute_single_use_symbol_in_expression+walk_item+walk_list+walk_node.{
   statement,
@@ -265,7 +265,7 @@ abbrev substitute-single-use-symbol-in-expression-μ-loop :
 substitute-single-use-symbol-in-expression-μ-loop file h nodes₀ at s w₀ i₀ looks₀ replaced₀ nodes w i looks replaced = i
 
 substitute-single-use-symbol-in-expression-behind-links-requires :
-    (t : ℕ) → substitute-single-use-symbol-in-expression-lts.Need-behind-links-requires (behind-links-reads.Asked, behind-links-reads.Learnt, walk-node-below t, walk-node.Post, is-replaced-reads.Asked, is-replaced-reads.Learnt, leaves-before-reads.Asked, leaves-before-reads.Learnt, behind-child-below t, behind-child.Post, gathered-reads.Asked, gathered-reads.Learnt)
+    (t : ℕ) → substitute-single-use-symbol-in-expression-lts.Need-behind-links-requires (behind-links-reads.Asked, behind-links-reads.Learnt, walk-node-below t, walk-node.Post, is-replaced-reads.Asked, is-replaced-reads.Learnt, node-above-reads.Asked, node-above-reads.Learnt, behind-child-below t, behind-child.Post, gathered-reads.Asked, gathered-reads.Learnt)
     (substitute-single-use-symbol-in-expression-at t)
     substitute-single-use-symbol-in-expression.Post
     substitute-single-use-symbol-in-expression-Inv-loop
@@ -273,7 +273,7 @@ substitute-single-use-symbol-in-expression-behind-links-requires :
 substitute-single-use-symbol-in-expression-behind-links-requires t c κs = ((c .before .before .before) .pre .1 .0, ((c .before .before .before) .pre .1 .1 .0, ((c .before .before .before) .pre .1 .1 .1 .0, ((c .before .before .before) .pre .1 .1 .1 .1))))
 
 substitute-single-use-symbol-in-expression-walk-node-requires :
-    (t : ℕ) → substitute-single-use-symbol-in-expression-lts.Need-walk-node-requires (behind-links-reads.Asked, behind-links-reads.Learnt, walk-node-below t, walk-node.Post, is-replaced-reads.Asked, is-replaced-reads.Learnt, leaves-before-reads.Asked, leaves-before-reads.Learnt, behind-child-below t, behind-child.Post, gathered-reads.Asked, gathered-reads.Learnt)
+    (t : ℕ) → substitute-single-use-symbol-in-expression-lts.Need-walk-node-requires (behind-links-reads.Asked, behind-links-reads.Learnt, walk-node-below t, walk-node.Post, is-replaced-reads.Asked, is-replaced-reads.Learnt, node-above-reads.Asked, node-above-reads.Learnt, behind-child-below t, behind-child.Post, gathered-reads.Asked, gathered-reads.Learnt)
     (substitute-single-use-symbol-in-expression-at t)
     substitute-single-use-symbol-in-expression.Post
     substitute-single-use-symbol-in-expression-Inv-loop
@@ -281,7 +281,7 @@ substitute-single-use-symbol-in-expression-walk-node-requires :
 substitute-single-use-symbol-in-expression-walk-node-requires t c κs = (omega (arith, (c .before .before .before .before .before .before) .pre .0, links-seen ((c .before .before .behind-links) .ensures .links), searchable-room ((c .before .before .before .before .before .before) .pre .1 .1 .1 .0)), ((c .before .before .before .before .before .before) .pre .1 .0, ((c .before .before .before .before .before .before) .pre .1 .1 .0, ((c .before .before .behind-links) .ensures .here, ((c .before .before .before .before .before .before) .pre .1 .1 .1 .1)))))
 
 substitute-single-use-symbol-in-expression-is-replaced-requires :
-    (t : ℕ) → substitute-single-use-symbol-in-expression-lts.Need-is-replaced-requires (behind-links-reads.Asked, behind-links-reads.Learnt, walk-node-below t, walk-node.Post, is-replaced-reads.Asked, is-replaced-reads.Learnt, leaves-before-reads.Asked, leaves-before-reads.Learnt, behind-child-below t, behind-child.Post, gathered-reads.Asked, gathered-reads.Learnt)
+    (t : ℕ) → substitute-single-use-symbol-in-expression-lts.Need-is-replaced-requires (behind-links-reads.Asked, behind-links-reads.Learnt, walk-node-below t, walk-node.Post, is-replaced-reads.Asked, is-replaced-reads.Learnt, node-above-reads.Asked, node-above-reads.Learnt, behind-child-below t, behind-child.Post, gathered-reads.Asked, gathered-reads.Learnt)
     (substitute-single-use-symbol-in-expression-at t)
     substitute-single-use-symbol-in-expression.Post
     substitute-single-use-symbol-in-expression-Inv-loop
@@ -289,47 +289,47 @@ substitute-single-use-symbol-in-expression-is-replaced-requires :
 substitute-single-use-symbol-in-expression-is-replaced-requires t c κs = tt
 
 substitute-single-use-symbol-in-expression-loop-holds :
-    (t : ℕ) → substitute-single-use-symbol-in-expression-lts.Need-loop-holds (behind-links-reads.Asked, behind-links-reads.Learnt, walk-node-below t, walk-node.Post, is-replaced-reads.Asked, is-replaced-reads.Learnt, leaves-before-reads.Asked, leaves-before-reads.Learnt, behind-child-below t, behind-child.Post, gathered-reads.Asked, gathered-reads.Learnt)
+    (t : ℕ) → substitute-single-use-symbol-in-expression-lts.Need-loop-holds (behind-links-reads.Asked, behind-links-reads.Learnt, walk-node-below t, walk-node.Post, is-replaced-reads.Asked, is-replaced-reads.Learnt, node-above-reads.Asked, node-above-reads.Learnt, behind-child-below t, behind-child.Post, gathered-reads.Asked, gathered-reads.Learnt)
     (substitute-single-use-symbol-in-expression-at t)
     substitute-single-use-symbol-in-expression.Post
     substitute-single-use-symbol-in-expression-Inv-loop
     substitute-single-use-symbol-in-expression-μ-loop
 substitute-single-use-symbol-in-expression-loop-holds t c = ((c .is-replaced) .ensures, refl, λ table₀ g. g)
 
-substitute-single-use-symbol-in-expression-leaves-before-requires :
-    (t : ℕ) → substitute-single-use-symbol-in-expression-lts.Need-leaves-before-requires (behind-links-reads.Asked, behind-links-reads.Learnt, walk-node-below t, walk-node.Post, is-replaced-reads.Asked, is-replaced-reads.Learnt, leaves-before-reads.Asked, leaves-before-reads.Learnt, behind-child-below t, behind-child.Post, gathered-reads.Asked, gathered-reads.Learnt)
+substitute-single-use-symbol-in-expression-node-above-requires :
+    (t : ℕ) → substitute-single-use-symbol-in-expression-lts.Need-node-above-requires (behind-links-reads.Asked, behind-links-reads.Learnt, walk-node-below t, walk-node.Post, is-replaced-reads.Asked, is-replaced-reads.Learnt, node-above-reads.Asked, node-above-reads.Learnt, behind-child-below t, behind-child.Post, gathered-reads.Asked, gathered-reads.Learnt)
     (substitute-single-use-symbol-in-expression-at t)
     substitute-single-use-symbol-in-expression.Post
     substitute-single-use-symbol-in-expression-Inv-loop
     substitute-single-use-symbol-in-expression-μ-loop
-substitute-single-use-symbol-in-expression-leaves-before-requires t c κs = let g = (c .before .before .before .loop) .inv .2 ((c .before .before .before .before .before .before .before .before .before .before .before .before .before .before) .args .nodes .now) (record { links = (c .before .before .before .before .before .before .before .before .before .before .behind-links) .ensures .links; here = (c .before .before .before .before .before .before .before .before .before .before .behind-links) .ensures .here; did = (c .before .before .before .before .before .before .before .walk-node) .ensures; same = (c .before .before .before .before .before .before .before .walk-node) .kept .1 .1 .0 }) in (within-room (contextOf (read ((c .before .before .before .before .before .before .before .before .before .before .before .before .before .before) .args .file .now))) ((c .before .before .before .before .before .before .before .before .before .before .before .before .before .before) .args .s) ((c .before .before .before .before .before .before .before .before .before .before .before .before .before .before) .pre .1 .1 .1 .1) g (ltb-true ((c .before .before .before .before .before .before .before .before .before .before .before .before .before .before) .args .at .0) ((c .before .before .before .loop) .i) (and-right (not ((c .before .before .before .loop) .replaced)) (ltb ((c .before .before .before .before .before .before .before .before .before .before .before .before .before .before) .args .at .0) ((c .before .before .before .loop) .i)) ((c .before .if1) .taken))), within-above (contextOf (read ((c .before .before .before .before .before .before .before .before .before .before .before .before .before .before) .args .file .now))) ((c .before .before .before .before .before .before .before .before .before .before .before .before .before .before) .args .s) ((c .before .before .before .before .before .before .before .before .before .before .before .before .before .before) .pre .1 .1 .1 .1) g (ltb-true ((c .before .before .before .before .before .before .before .before .before .before .before .before .before .before) .args .at .0) ((c .before .before .before .loop) .i) (and-right (not ((c .before .before .before .loop) .replaced)) (ltb ((c .before .before .before .before .before .before .before .before .before .before .before .before .before .before) .args .at .0) ((c .before .before .before .loop) .i)) ((c .before .if1) .taken))))
+substitute-single-use-symbol-in-expression-node-above-requires t c κs = let g = (c .before .before .before .loop) .inv .2 ((c .before .before .before .before .before .before .before .before .before .before .before .before .before .before) .args .nodes .now) (record { links = (c .before .before .before .before .before .before .before .before .before .before .behind-links) .ensures .links; here = (c .before .before .before .before .before .before .before .before .before .before .behind-links) .ensures .here; did = (c .before .before .before .before .before .before .before .walk-node) .ensures; same = (c .before .before .before .before .before .before .before .walk-node) .kept .1 .1 .0 }) in (within-room (contextOf (read ((c .before .before .before .before .before .before .before .before .before .before .before .before .before .before) .args .file .now))) ((c .before .before .before .before .before .before .before .before .before .before .before .before .before .before) .args .s) ((c .before .before .before .before .before .before .before .before .before .before .before .before .before .before) .pre .1 .1 .1 .1) g (ltb-true ((c .before .before .before .before .before .before .before .before .before .before .before .before .before .before) .args .at .0) ((c .before .before .before .loop) .i) (and-right (not ((c .before .before .before .loop) .replaced)) (ltb ((c .before .before .before .before .before .before .before .before .before .before .before .before .before .before) .args .at .0) ((c .before .before .before .loop) .i)) ((c .before .if1) .taken))), within-above (contextOf (read ((c .before .before .before .before .before .before .before .before .before .before .before .before .before .before) .args .file .now))) ((c .before .before .before .before .before .before .before .before .before .before .before .before .before .before) .args .s) ((c .before .before .before .before .before .before .before .before .before .before .before .before .before .before) .pre .1 .1 .1 .1) g (ltb-true ((c .before .before .before .before .before .before .before .before .before .before .before .before .before .before) .args .at .0) ((c .before .before .before .loop) .i) (and-right (not ((c .before .before .before .loop) .replaced)) (ltb ((c .before .before .before .before .before .before .before .before .before .before .before .before .before .before) .args .at .0) ((c .before .before .before .loop) .i)) ((c .before .if1) .taken))))
 
 substitute-single-use-symbol-in-expression-behind-child-requires :
-    (t : ℕ) → substitute-single-use-symbol-in-expression-lts.Need-behind-child-requires (behind-links-reads.Asked, behind-links-reads.Learnt, walk-node-below t, walk-node.Post, is-replaced-reads.Asked, is-replaced-reads.Learnt, leaves-before-reads.Asked, leaves-before-reads.Learnt, behind-child-below t, behind-child.Post, gathered-reads.Asked, gathered-reads.Learnt)
+    (t : ℕ) → substitute-single-use-symbol-in-expression-lts.Need-behind-child-requires (behind-links-reads.Asked, behind-links-reads.Learnt, walk-node-below t, walk-node.Post, is-replaced-reads.Asked, is-replaced-reads.Learnt, node-above-reads.Asked, node-above-reads.Learnt, behind-child-below t, behind-child.Post, gathered-reads.Asked, gathered-reads.Learnt)
     (substitute-single-use-symbol-in-expression-at t)
     substitute-single-use-symbol-in-expression.Post
     substitute-single-use-symbol-in-expression-Inv-loop
     substitute-single-use-symbol-in-expression-μ-loop
-substitute-single-use-symbol-in-expression-behind-child-requires t c κs = let g = (c .before .before .before .before .before .loop) .inv .2 ((c .before .before .before .before .before .before .before .before .before .before .before .before .before .before .before .before) .args .nodes .now) (record { links = (c .before .before .before .before .before .before .before .before .before .before .before .before .behind-links) .ensures .links; here = (c .before .before .before .before .before .before .before .before .before .before .before .before .behind-links) .ensures .here; did = (c .before .before .before .before .before .before .before .before .before .walk-node) .ensures; same = (c .before .before .before .before .before .before .before .before .before .walk-node) .kept .1 .1 .0 }) in (omega (arith, (c .before .before .before .before .before .before .before .before .before .before .before .before .before .before .before .before) .pre .0, before-later (contextOf (read ((c .before .before .before .before .before .before .before .before .before .before .before .before .before .before .before .before) .args .file .now))) ((c .before .before .before .before .before .before .before .before .before .before .before .before .before .before .before .before) .args .s) ((c .before .before .before .before .before .before .before .before .before .before .before .before .before .before .before .before) .pre .1 .1 .1 .1) g (ltb-true ((c .before .before .before .before .before .before .before .before .before .before .before .before .before .before .before .before) .args .at .0) ((c .before .before .before .before .before .loop) .i) (and-right (not ((c .before .before .before .before .before .loop) .replaced)) (ltb ((c .before .before .before .before .before .before .before .before .before .before .before .before .before .before .before .before) .args .at .0) ((c .before .before .before .before .before .loop) .i)) ((c .before .before .before .if1) .taken))) ((c .before .leaves-before) .result) ((c .before .leaves-before) .ensures), before-room (contextOf (read ((c .before .before .before .before .before .before .before .before .before .before .before .before .before .before .before .before) .args .file .now))) ((c .before .before .before .before .before .before .before .before .before .before .before .before .before .before .before .before) .args .s) ((c .before .before .before .before .before .before .before .before .before .before .before .before .before .before .before .before) .pre .1 .1 .1 .1) g (ltb-true ((c .before .before .before .before .before .before .before .before .before .before .before .before .before .before .before .before) .args .at .0) ((c .before .before .before .before .before .loop) .i) (and-right (not ((c .before .before .before .before .before .loop) .replaced)) (ltb ((c .before .before .before .before .before .before .before .before .before .before .before .before .before .before .before .before) .args .at .0) ((c .before .before .before .before .before .loop) .i)) ((c .before .before .before .if1) .taken))) ((c .before .leaves-before) .result) ((c .before .leaves-before) .ensures), (c .before .before .before .before .before .loop) .inv .1, (c .before .before .before .before .before .before .before .before .before .walk-node) .kept .1 .1 .0), ((c .before .before .before .before .before .before .before .before .before .before .before .before .before .before .before .before) .pre .1 .0, ((c .before .before .before .before .before .before .before .before .before .before .before .before .before .before .before .before) .pre .1 .1 .0, (((c .before .before .before .before .before .before .before .before .before .before .before .before .before .before .before .before) .pre .1 .1 .1 .1), ((c .before .before .before .before .before .before .before .before .before .before .before .before .before .before .before .before) .args .nodes .now, within-child (contextOf (read ((c .before .before .before .before .before .before .before .before .before .before .before .before .before .before .before .before) .args .file .now))) ((c .before .before .before .before .before .before .before .before .before .before .before .before .before .before .before .before) .args .s) ((c .before .before .before .before .before .before .before .before .before .before .before .before .before .before .before .before) .pre .1 .1 .1 .1) g (ltb-true ((c .before .before .before .before .before .before .before .before .before .before .before .before .before .before .before .before) .args .at .0) ((c .before .before .before .before .before .loop) .i) (and-right (not ((c .before .before .before .before .before .loop) .replaced)) (ltb ((c .before .before .before .before .before .before .before .before .before .before .before .before .before .before .before .before) .args .at .0) ((c .before .before .before .before .before .loop) .i)) ((c .before .before .before .if1) .taken))) ((c .before .leaves-before) .result) ((c .before .leaves-before) .ensures) (sym ((c .before .before .before .before .before .loop) .inv .0) ∙ not-true ((c .before .before .before .before .before .loop) .replaced) (and-left (not ((c .before .before .before .before .before .loop) .replaced)) (ltb ((c .before .before .before .before .before .before .before .before .before .before .before .before .before .before .before .before) .args .at .0) ((c .before .before .before .before .before .loop) .i)) ((c .before .before .before .if1) .taken))))))))
+substitute-single-use-symbol-in-expression-behind-child-requires t c κs = let g = (c .before .before .before .before .before .loop) .inv .2 ((c .before .before .before .before .before .before .before .before .before .before .before .before .before .before .before .before) .args .nodes .now) (record { links = (c .before .before .before .before .before .before .before .before .before .before .before .before .behind-links) .ensures .links; here = (c .before .before .before .before .before .before .before .before .before .before .before .before .behind-links) .ensures .here; did = (c .before .before .before .before .before .before .before .before .before .walk-node) .ensures; same = (c .before .before .before .before .before .before .before .before .before .walk-node) .kept .1 .1 .0 }) in (omega (arith, (c .before .before .before .before .before .before .before .before .before .before .before .before .before .before .before .before) .pre .0, before-later (contextOf (read ((c .before .before .before .before .before .before .before .before .before .before .before .before .before .before .before .before) .args .file .now))) ((c .before .before .before .before .before .before .before .before .before .before .before .before .before .before .before .before) .args .s) ((c .before .before .before .before .before .before .before .before .before .before .before .before .before .before .before .before) .pre .1 .1 .1 .1) g (ltb-true ((c .before .before .before .before .before .before .before .before .before .before .before .before .before .before .before .before) .args .at .0) ((c .before .before .before .before .before .loop) .i) (and-right (not ((c .before .before .before .before .before .loop) .replaced)) (ltb ((c .before .before .before .before .before .before .before .before .before .before .before .before .before .before .before .before) .args .at .0) ((c .before .before .before .before .before .loop) .i)) ((c .before .before .before .if1) .taken))) ((c .before .node-above) .result) ((c .before .node-above) .ensures), before-room (contextOf (read ((c .before .before .before .before .before .before .before .before .before .before .before .before .before .before .before .before) .args .file .now))) ((c .before .before .before .before .before .before .before .before .before .before .before .before .before .before .before .before) .args .s) ((c .before .before .before .before .before .before .before .before .before .before .before .before .before .before .before .before) .pre .1 .1 .1 .1) g (ltb-true ((c .before .before .before .before .before .before .before .before .before .before .before .before .before .before .before .before) .args .at .0) ((c .before .before .before .before .before .loop) .i) (and-right (not ((c .before .before .before .before .before .loop) .replaced)) (ltb ((c .before .before .before .before .before .before .before .before .before .before .before .before .before .before .before .before) .args .at .0) ((c .before .before .before .before .before .loop) .i)) ((c .before .before .before .if1) .taken))) ((c .before .node-above) .result) ((c .before .node-above) .ensures), (c .before .before .before .before .before .loop) .inv .1, (c .before .before .before .before .before .before .before .before .before .walk-node) .kept .1 .1 .0), ((c .before .before .before .before .before .before .before .before .before .before .before .before .before .before .before .before) .pre .1 .0, ((c .before .before .before .before .before .before .before .before .before .before .before .before .before .before .before .before) .pre .1 .1 .0, (((c .before .before .before .before .before .before .before .before .before .before .before .before .before .before .before .before) .pre .1 .1 .1 .1), ((c .before .before .before .before .before .before .before .before .before .before .before .before .before .before .before .before) .args .nodes .now, within-child (contextOf (read ((c .before .before .before .before .before .before .before .before .before .before .before .before .before .before .before .before) .args .file .now))) ((c .before .before .before .before .before .before .before .before .before .before .before .before .before .before .before .before) .args .s) ((c .before .before .before .before .before .before .before .before .before .before .before .before .before .before .before .before) .pre .1 .1 .1 .1) g (ltb-true ((c .before .before .before .before .before .before .before .before .before .before .before .before .before .before .before .before) .args .at .0) ((c .before .before .before .before .before .loop) .i) (and-right (not ((c .before .before .before .before .before .loop) .replaced)) (ltb ((c .before .before .before .before .before .before .before .before .before .before .before .before .before .before .before .before) .args .at .0) ((c .before .before .before .before .before .loop) .i)) ((c .before .before .before .if1) .taken))) ((c .before .node-above) .result) ((c .before .node-above) .ensures) (sym ((c .before .before .before .before .before .loop) .inv .0) ∙ not-true ((c .before .before .before .before .before .loop) .replaced) (and-left (not ((c .before .before .before .before .before .loop) .replaced)) (ltb ((c .before .before .before .before .before .before .before .before .before .before .before .before .before .before .before .before) .args .at .0) ((c .before .before .before .before .before .loop) .i)) ((c .before .before .before .if1) .taken))))))))
 
 substitute-single-use-symbol-in-expression-add-looks :
-    (t : ℕ) → substitute-single-use-symbol-in-expression-lts.Need-add-looks (behind-links-reads.Asked, behind-links-reads.Learnt, walk-node-below t, walk-node.Post, is-replaced-reads.Asked, is-replaced-reads.Learnt, leaves-before-reads.Asked, leaves-before-reads.Learnt, behind-child-below t, behind-child.Post, gathered-reads.Asked, gathered-reads.Learnt)
+    (t : ℕ) → substitute-single-use-symbol-in-expression-lts.Need-add-looks (behind-links-reads.Asked, behind-links-reads.Learnt, walk-node-below t, walk-node.Post, is-replaced-reads.Asked, is-replaced-reads.Learnt, node-above-reads.Asked, node-above-reads.Learnt, behind-child-below t, behind-child.Post, gathered-reads.Asked, gathered-reads.Learnt)
     (substitute-single-use-symbol-in-expression-at t)
     substitute-single-use-symbol-in-expression.Post
     substitute-single-use-symbol-in-expression-Inv-loop
     substitute-single-use-symbol-in-expression-μ-loop
-substitute-single-use-symbol-in-expression-add-looks t c = let g = (c .before .before .before .before .before .before .before .before .before .before .loop) .inv .2 ((c .before .before .before .before .before .before .before .before .before .before .before .before .before .before .before .before .before .before .before .before .before) .args .nodes .now) (record { links = (c .before .before .before .before .before .before .before .before .before .before .before .before .before .before .before .before .before .behind-links) .ensures .links; here = (c .before .before .before .before .before .before .before .before .before .before .before .before .before .before .before .before .before .behind-links) .ensures .here; did = (c .before .before .before .before .before .before .before .before .before .before .before .before .before .before .walk-node) .ensures; same = (c .before .before .before .before .before .before .before .before .before .before .before .before .before .before .walk-node) .kept .1 .1 .0 }) in omega (arith, before-looks (contextOf (read ((c .before .before .before .before .before .before .before .before .before .before .before .before .before .before .before .before .before .before .before .before .before) .args .file .now))) ((c .before .before .before .before .before .before .before .before .before .before .before .before .before .before .before .before .before .before .before .before .before) .args .s) ((c .before .before .before .before .before .before .before .before .before .before .before .before .before .before .before .before .before .before .before .before .before) .pre .1 .1 .1 .1) g (ltb-true ((c .before .before .before .before .before .before .before .before .before .before .before .before .before .before .before .before .before .before .before .before .before) .args .at .0) ((c .before .before .before .before .before .before .before .before .before .before .loop) .i) (and-right (not ((c .before .before .before .before .before .before .before .before .before .before .loop) .replaced)) (ltb ((c .before .before .before .before .before .before .before .before .before .before .before .before .before .before .before .before .before .before .before .before .before) .args .at .0) ((c .before .before .before .before .before .before .before .before .before .before .loop) .i)) ((c .before .before .before .before .before .before .before .before .if1) .taken))) ((c .before .before .before .before .before .before .leaves-before) .result) ((c .before .before .before .before .before .before .leaves-before) .ensures), within-looks (contextOf (read ((c .before .before .before .before .before .before .before .before .before .before .before .before .before .before .before .before .before .before .before .before .before) .args .file .now))) ((c .before .before .before .before .before .before .before .before .before .before .before .before .before .before .before .before .before .before .before .before .before) .args .s) ((c .before .before .before .before .before .before .before .before .before .before .before .before .before .before .before .before .before .before .before .before .before) .pre .1 .1 .1 .1) g, (c .before .before .before .before .before .before .before .before .before .before .loop) .inv .1, (c .before .before .before .before .before .before .before .before .before .before .before .before .before .before .walk-node) .kept .1 .1 .0, (c .before .before .before .before .before .before .before .before .before .before .before .before .before .before .before .before .before .before .before .before .before) .good .1 .1 .0)
+substitute-single-use-symbol-in-expression-add-looks t c = let g = (c .before .before .before .before .before .before .before .before .before .before .loop) .inv .2 ((c .before .before .before .before .before .before .before .before .before .before .before .before .before .before .before .before .before .before .before .before .before) .args .nodes .now) (record { links = (c .before .before .before .before .before .before .before .before .before .before .before .before .before .before .before .before .before .behind-links) .ensures .links; here = (c .before .before .before .before .before .before .before .before .before .before .before .before .before .before .before .before .before .behind-links) .ensures .here; did = (c .before .before .before .before .before .before .before .before .before .before .before .before .before .before .walk-node) .ensures; same = (c .before .before .before .before .before .before .before .before .before .before .before .before .before .before .walk-node) .kept .1 .1 .0 }) in omega (arith, before-looks (contextOf (read ((c .before .before .before .before .before .before .before .before .before .before .before .before .before .before .before .before .before .before .before .before .before) .args .file .now))) ((c .before .before .before .before .before .before .before .before .before .before .before .before .before .before .before .before .before .before .before .before .before) .args .s) ((c .before .before .before .before .before .before .before .before .before .before .before .before .before .before .before .before .before .before .before .before .before) .pre .1 .1 .1 .1) g (ltb-true ((c .before .before .before .before .before .before .before .before .before .before .before .before .before .before .before .before .before .before .before .before .before) .args .at .0) ((c .before .before .before .before .before .before .before .before .before .before .loop) .i) (and-right (not ((c .before .before .before .before .before .before .before .before .before .before .loop) .replaced)) (ltb ((c .before .before .before .before .before .before .before .before .before .before .before .before .before .before .before .before .before .before .before .before .before) .args .at .0) ((c .before .before .before .before .before .before .before .before .before .before .loop) .i)) ((c .before .before .before .before .before .before .before .before .if1) .taken))) ((c .before .before .before .before .before .before .node-above) .result) ((c .before .before .before .before .before .before .node-above) .ensures), within-looks (contextOf (read ((c .before .before .before .before .before .before .before .before .before .before .before .before .before .before .before .before .before .before .before .before .before) .args .file .now))) ((c .before .before .before .before .before .before .before .before .before .before .before .before .before .before .before .before .before .before .before .before .before) .args .s) ((c .before .before .before .before .before .before .before .before .before .before .before .before .before .before .before .before .before .before .before .before .before) .pre .1 .1 .1 .1) g, (c .before .before .before .before .before .before .before .before .before .before .loop) .inv .1, (c .before .before .before .before .before .before .before .before .before .before .before .before .before .before .walk-node) .kept .1 .1 .0, (c .before .before .before .before .before .before .before .before .before .before .before .before .before .before .before .before .before .before .before .before .before) .good .1 .1 .0)
 
 substitute-single-use-symbol-in-expression-sub-looks :
-    (t : ℕ) → substitute-single-use-symbol-in-expression-lts.Need-sub-looks (behind-links-reads.Asked, behind-links-reads.Learnt, walk-node-below t, walk-node.Post, is-replaced-reads.Asked, is-replaced-reads.Learnt, leaves-before-reads.Asked, leaves-before-reads.Learnt, behind-child-below t, behind-child.Post, gathered-reads.Asked, gathered-reads.Learnt)
+    (t : ℕ) → substitute-single-use-symbol-in-expression-lts.Need-sub-looks (behind-links-reads.Asked, behind-links-reads.Learnt, walk-node-below t, walk-node.Post, is-replaced-reads.Asked, is-replaced-reads.Learnt, node-above-reads.Asked, node-above-reads.Learnt, behind-child-below t, behind-child.Post, gathered-reads.Asked, gathered-reads.Learnt)
     (substitute-single-use-symbol-in-expression-at t)
     substitute-single-use-symbol-in-expression.Post
     substitute-single-use-symbol-in-expression-Inv-loop
     substitute-single-use-symbol-in-expression-μ-loop
-substitute-single-use-symbol-in-expression-sub-looks t c = let g = (c .before .before .before .before .before .before .before .before .before .before .loop) .inv .2 ((c .before .before .before .before .before .before .before .before .before .before .before .before .before .before .before .before .before .before .before .before .before) .args .nodes .now) (record { links = (c .before .before .before .before .before .before .before .before .before .before .before .before .before .before .before .before .before .behind-links) .ensures .links; here = (c .before .before .before .before .before .before .before .before .before .before .before .before .before .before .before .before .before .behind-links) .ensures .here; did = (c .before .before .before .before .before .before .before .before .before .before .before .before .before .before .walk-node) .ensures; same = (c .before .before .before .before .before .before .before .before .before .before .before .before .before .before .walk-node) .kept .1 .1 .0 }) in before-looks (contextOf (read ((c .before .before .before .before .before .before .before .before .before .before .before .before .before .before .before .before .before .before .before .before .before) .args .file .now))) ((c .before .before .before .before .before .before .before .before .before .before .before .before .before .before .before .before .before .before .before .before .before) .args .s) ((c .before .before .before .before .before .before .before .before .before .before .before .before .before .before .before .before .before .before .before .before .before) .pre .1 .1 .1 .1) g (ltb-true ((c .before .before .before .before .before .before .before .before .before .before .before .before .before .before .before .before .before .before .before .before .before) .args .at .0) ((c .before .before .before .before .before .before .before .before .before .before .loop) .i) (and-right (not ((c .before .before .before .before .before .before .before .before .before .before .loop) .replaced)) (ltb ((c .before .before .before .before .before .before .before .before .before .before .before .before .before .before .before .before .before .before .before .before .before) .args .at .0) ((c .before .before .before .before .before .before .before .before .before .before .loop) .i)) ((c .before .before .before .before .before .before .before .before .if1) .taken))) ((c .before .before .before .before .before .before .leaves-before) .result) ((c .before .before .before .before .before .before .leaves-before) .ensures)
+substitute-single-use-symbol-in-expression-sub-looks t c = let g = (c .before .before .before .before .before .before .before .before .before .before .loop) .inv .2 ((c .before .before .before .before .before .before .before .before .before .before .before .before .before .before .before .before .before .before .before .before .before) .args .nodes .now) (record { links = (c .before .before .before .before .before .before .before .before .before .before .before .before .before .before .before .before .before .behind-links) .ensures .links; here = (c .before .before .before .before .before .before .before .before .before .before .before .before .before .before .before .before .before .behind-links) .ensures .here; did = (c .before .before .before .before .before .before .before .before .before .before .before .before .before .before .walk-node) .ensures; same = (c .before .before .before .before .before .before .before .before .before .before .before .before .before .before .walk-node) .kept .1 .1 .0 }) in before-looks (contextOf (read ((c .before .before .before .before .before .before .before .before .before .before .before .before .before .before .before .before .before .before .before .before .before) .args .file .now))) ((c .before .before .before .before .before .before .before .before .before .before .before .before .before .before .before .before .before .before .before .before .before) .args .s) ((c .before .before .before .before .before .before .before .before .before .before .before .before .before .before .before .before .before .before .before .before .before) .pre .1 .1 .1 .1) g (ltb-true ((c .before .before .before .before .before .before .before .before .before .before .before .before .before .before .before .before .before .before .before .before .before) .args .at .0) ((c .before .before .before .before .before .before .before .before .before .before .loop) .i) (and-right (not ((c .before .before .before .before .before .before .before .before .before .before .loop) .replaced)) (ltb ((c .before .before .before .before .before .before .before .before .before .before .before .before .before .before .before .before .before .before .before .before .before) .args .at .0) ((c .before .before .before .before .before .before .before .before .before .before .loop) .i)) ((c .before .before .before .before .before .before .before .before .if1) .taken))) ((c .before .before .before .before .before .before .node-above) .result) ((c .before .before .before .before .before .before .node-above) .ensures)
 
 substitute-single-use-symbol-in-expression-is-replaced-requires-2 :
-    (t : ℕ) → substitute-single-use-symbol-in-expression-lts.Need-is-replaced-requires-2 (behind-links-reads.Asked, behind-links-reads.Learnt, walk-node-below t, walk-node.Post, is-replaced-reads.Asked, is-replaced-reads.Learnt, leaves-before-reads.Asked, leaves-before-reads.Learnt, behind-child-below t, behind-child.Post, gathered-reads.Asked, gathered-reads.Learnt)
+    (t : ℕ) → substitute-single-use-symbol-in-expression-lts.Need-is-replaced-requires-2 (behind-links-reads.Asked, behind-links-reads.Learnt, walk-node-below t, walk-node.Post, is-replaced-reads.Asked, is-replaced-reads.Learnt, node-above-reads.Asked, node-above-reads.Learnt, behind-child-below t, behind-child.Post, gathered-reads.Asked, gathered-reads.Learnt)
     (substitute-single-use-symbol-in-expression-at t)
     substitute-single-use-symbol-in-expression.Post
     substitute-single-use-symbol-in-expression-Inv-loop
@@ -337,23 +337,23 @@ substitute-single-use-symbol-in-expression-is-replaced-requires-2 :
 substitute-single-use-symbol-in-expression-is-replaced-requires-2 t c κs = tt
 
 substitute-single-use-symbol-in-expression-loop-less :
-    (t : ℕ) → substitute-single-use-symbol-in-expression-lts.Need-loop-less (behind-links-reads.Asked, behind-links-reads.Learnt, walk-node-below t, walk-node.Post, is-replaced-reads.Asked, is-replaced-reads.Learnt, leaves-before-reads.Asked, leaves-before-reads.Learnt, behind-child-below t, behind-child.Post, gathered-reads.Asked, gathered-reads.Learnt)
+    (t : ℕ) → substitute-single-use-symbol-in-expression-lts.Need-loop-less (behind-links-reads.Asked, behind-links-reads.Learnt, walk-node-below t, walk-node.Post, is-replaced-reads.Asked, is-replaced-reads.Learnt, node-above-reads.Asked, node-above-reads.Learnt, behind-child-below t, behind-child.Post, gathered-reads.Asked, gathered-reads.Learnt)
     (substitute-single-use-symbol-in-expression-at t)
     substitute-single-use-symbol-in-expression.Post
     substitute-single-use-symbol-in-expression-Inv-loop
     substitute-single-use-symbol-in-expression-μ-loop
-substitute-single-use-symbol-in-expression-loop-less t c = let g = (c .before .before .before .before .before .before .before .before .before .before .before .loop) .inv .2 ((c .before .before .before .before .before .before .before .before .before .before .before .before .before .before .before .before .before .before .before .before .before .before) .args .nodes .now) (record { links = (c .before .before .before .before .before .before .before .before .before .before .before .before .before .before .before .before .before .before .behind-links) .ensures .links; here = (c .before .before .before .before .before .before .before .before .before .before .before .before .before .before .before .before .before .before .behind-links) .ensures .here; did = (c .before .before .before .before .before .before .before .before .before .before .before .before .before .before .before .walk-node) .ensures; same = (c .before .before .before .before .before .before .before .before .before .before .before .before .before .before .before .walk-node) .kept .1 .1 .0 }) in before-sooner (contextOf (read ((c .before .before .before .before .before .before .before .before .before .before .before .before .before .before .before .before .before .before .before .before .before .before) .args .file .now))) ((c .before .before .before .before .before .before .before .before .before .before .before .before .before .before .before .before .before .before .before .before .before .before) .args .s) ((c .before .before .before .before .before .before .before .before .before .before .before .before .before .before .before .before .before .before .before .before .before .before) .pre .1 .1 .1 .1) g (ltb-true ((c .before .before .before .before .before .before .before .before .before .before .before .before .before .before .before .before .before .before .before .before .before .before) .args .at .0) ((c .before .before .before .before .before .before .before .before .before .before .before .loop) .i) (and-right (not ((c .before .before .before .before .before .before .before .before .before .before .before .loop) .replaced)) (ltb ((c .before .before .before .before .before .before .before .before .before .before .before .before .before .before .before .before .before .before .before .before .before .before) .args .at .0) ((c .before .before .before .before .before .before .before .before .before .before .before .loop) .i)) ((c .before .before .before .before .before .before .before .before .before .if1) .taken))) ((c .before .before .before .before .before .before .before .leaves-before) .result) ((c .before .before .before .before .before .before .before .leaves-before) .ensures)
+substitute-single-use-symbol-in-expression-loop-less t c = let g = (c .before .before .before .before .before .before .before .before .before .before .before .loop) .inv .2 ((c .before .before .before .before .before .before .before .before .before .before .before .before .before .before .before .before .before .before .before .before .before .before) .args .nodes .now) (record { links = (c .before .before .before .before .before .before .before .before .before .before .before .before .before .before .before .before .before .before .behind-links) .ensures .links; here = (c .before .before .before .before .before .before .before .before .before .before .before .before .before .before .before .before .before .before .behind-links) .ensures .here; did = (c .before .before .before .before .before .before .before .before .before .before .before .before .before .before .before .walk-node) .ensures; same = (c .before .before .before .before .before .before .before .before .before .before .before .before .before .before .before .walk-node) .kept .1 .1 .0 }) in before-sooner (contextOf (read ((c .before .before .before .before .before .before .before .before .before .before .before .before .before .before .before .before .before .before .before .before .before .before) .args .file .now))) ((c .before .before .before .before .before .before .before .before .before .before .before .before .before .before .before .before .before .before .before .before .before .before) .args .s) ((c .before .before .before .before .before .before .before .before .before .before .before .before .before .before .before .before .before .before .before .before .before .before) .pre .1 .1 .1 .1) g (ltb-true ((c .before .before .before .before .before .before .before .before .before .before .before .before .before .before .before .before .before .before .before .before .before .before) .args .at .0) ((c .before .before .before .before .before .before .before .before .before .before .before .loop) .i) (and-right (not ((c .before .before .before .before .before .before .before .before .before .before .before .loop) .replaced)) (ltb ((c .before .before .before .before .before .before .before .before .before .before .before .before .before .before .before .before .before .before .before .before .before .before) .args .at .0) ((c .before .before .before .before .before .before .before .before .before .before .before .loop) .i)) ((c .before .before .before .before .before .before .before .before .before .if1) .taken))) ((c .before .before .before .before .before .before .before .node-above) .result) ((c .before .before .before .before .before .before .before .node-above) .ensures)
 
 substitute-single-use-symbol-in-expression-loop-again :
-    (t : ℕ) → substitute-single-use-symbol-in-expression-lts.Need-loop-again (behind-links-reads.Asked, behind-links-reads.Learnt, walk-node-below t, walk-node.Post, is-replaced-reads.Asked, is-replaced-reads.Learnt, leaves-before-reads.Asked, leaves-before-reads.Learnt, behind-child-below t, behind-child.Post, gathered-reads.Asked, gathered-reads.Learnt)
+    (t : ℕ) → substitute-single-use-symbol-in-expression-lts.Need-loop-again (behind-links-reads.Asked, behind-links-reads.Learnt, walk-node-below t, walk-node.Post, is-replaced-reads.Asked, is-replaced-reads.Learnt, node-above-reads.Asked, node-above-reads.Learnt, behind-child-below t, behind-child.Post, gathered-reads.Asked, gathered-reads.Learnt)
     (substitute-single-use-symbol-in-expression-at t)
     substitute-single-use-symbol-in-expression.Post
     substitute-single-use-symbol-in-expression-Inv-loop
     substitute-single-use-symbol-in-expression-μ-loop
-substitute-single-use-symbol-in-expression-loop-again t c = ((c .is-replaced2) .ensures, (c .before .before .before .before .before .behind-child) .kept .1 .1 .0 ∙ (c .before .before .before .before .before .before .before .before .before .before .before .loop) .inv .1, λ table₀ g₀. let g = (c .before .before .before .before .before .before .before .before .before .before .before .loop) .inv .2 table₀ g₀ in let v = within-child (contextOf (read ((c .before .before .before .before .before .before .before .before .before .before .before .before .before .before .before .before .before .before .before .before .before .before) .args .file .now))) ((c .before .before .before .before .before .before .before .before .before .before .before .before .before .before .before .before .before .before .before .before .before .before) .args .s) ((c .before .before .before .before .before .before .before .before .before .before .before .before .before .before .before .before .before .before .before .before .before .before) .pre .1 .1 .1 .1) g (ltb-true ((c .before .before .before .before .before .before .before .before .before .before .before .before .before .before .before .before .before .before .before .before .before .before) .args .at .0) ((c .before .before .before .before .before .before .before .before .before .before .before .loop) .i) (and-right (not ((c .before .before .before .before .before .before .before .before .before .before .before .loop) .replaced)) (ltb ((c .before .before .before .before .before .before .before .before .before .before .before .before .before .before .before .before .before .before .before .before .before .before) .args .at .0) ((c .before .before .before .before .before .before .before .before .before .before .before .loop) .i)) ((c .before .before .before .before .before .before .before .before .before .if1) .taken))) ((c .before .before .before .before .before .before .before .leaves-before) .result) ((c .before .before .before .before .before .before .before .leaves-before) .ensures) (sym ((c .before .before .before .before .before .before .before .before .before .before .before .loop) .inv .0) ∙ not-true ((c .before .before .before .before .before .before .before .before .before .before .before .loop) .replaced) (and-left (not ((c .before .before .before .before .before .before .before .before .before .before .before .loop) .replaced)) (ltb ((c .before .before .before .before .before .before .before .before .before .before .before .before .before .before .before .before .before .before .before .before .before .before) .args .at .0) ((c .before .before .before .before .before .before .before .before .before .before .before .loop) .i)) ((c .before .before .before .before .before .before .before .before .before .if1) .taken))) in within-link (contextOf (read ((c .before .before .before .before .before .before .before .before .before .before .before .before .before .before .before .before .before .before .before .before .before .before) .args .file .now))) ((c .before .before .before .before .before .before .before .before .before .before .before .before .before .before .before .before .before .before .before .before .before .before) .args .s) ((c .before .before .before .before .before .before .before .before .before .before .before .before .before .before .before .before .before .before .before .before .before .before) .pre .1 .1 .1 .1) g (ltb-true ((c .before .before .before .before .before .before .before .before .before .before .before .before .before .before .before .before .before .before .before .before .before .before) .args .at .0) ((c .before .before .before .before .before .before .before .before .before .before .before .loop) .i) (and-right (not ((c .before .before .before .before .before .before .before .before .before .before .before .loop) .replaced)) (ltb ((c .before .before .before .before .before .before .before .before .before .before .before .before .before .before .before .before .before .before .before .before .before .before) .args .at .0) ((c .before .before .before .before .before .before .before .before .before .before .before .loop) .i)) ((c .before .before .before .before .before .before .before .before .before .if1) .taken))) ((c .before .before .before .before .before .before .before .leaves-before) .result) ((c .before .before .before .before .before .before .before .leaves-before) .ensures) ((c .before .before .before .before .before .behind-child) .ensures table₀ v) ((c .before .before .before .before .before .behind-child) .kept .1 .1 .0))
+substitute-single-use-symbol-in-expression-loop-again t c = ((c .is-replaced2) .ensures, (c .before .before .before .before .before .behind-child) .kept .1 .1 .0 ∙ (c .before .before .before .before .before .before .before .before .before .before .before .loop) .inv .1, λ table₀ g₀. let g = (c .before .before .before .before .before .before .before .before .before .before .before .loop) .inv .2 table₀ g₀ in let v = within-child (contextOf (read ((c .before .before .before .before .before .before .before .before .before .before .before .before .before .before .before .before .before .before .before .before .before .before) .args .file .now))) ((c .before .before .before .before .before .before .before .before .before .before .before .before .before .before .before .before .before .before .before .before .before .before) .args .s) ((c .before .before .before .before .before .before .before .before .before .before .before .before .before .before .before .before .before .before .before .before .before .before) .pre .1 .1 .1 .1) g (ltb-true ((c .before .before .before .before .before .before .before .before .before .before .before .before .before .before .before .before .before .before .before .before .before .before) .args .at .0) ((c .before .before .before .before .before .before .before .before .before .before .before .loop) .i) (and-right (not ((c .before .before .before .before .before .before .before .before .before .before .before .loop) .replaced)) (ltb ((c .before .before .before .before .before .before .before .before .before .before .before .before .before .before .before .before .before .before .before .before .before .before) .args .at .0) ((c .before .before .before .before .before .before .before .before .before .before .before .loop) .i)) ((c .before .before .before .before .before .before .before .before .before .if1) .taken))) ((c .before .before .before .before .before .before .before .node-above) .result) ((c .before .before .before .before .before .before .before .node-above) .ensures) (sym ((c .before .before .before .before .before .before .before .before .before .before .before .loop) .inv .0) ∙ not-true ((c .before .before .before .before .before .before .before .before .before .before .before .loop) .replaced) (and-left (not ((c .before .before .before .before .before .before .before .before .before .before .before .loop) .replaced)) (ltb ((c .before .before .before .before .before .before .before .before .before .before .before .before .before .before .before .before .before .before .before .before .before .before) .args .at .0) ((c .before .before .before .before .before .before .before .before .before .before .before .loop) .i)) ((c .before .before .before .before .before .before .before .before .before .if1) .taken))) in within-link (contextOf (read ((c .before .before .before .before .before .before .before .before .before .before .before .before .before .before .before .before .before .before .before .before .before .before) .args .file .now))) ((c .before .before .before .before .before .before .before .before .before .before .before .before .before .before .before .before .before .before .before .before .before .before) .args .s) ((c .before .before .before .before .before .before .before .before .before .before .before .before .before .before .before .before .before .before .before .before .before .before) .pre .1 .1 .1 .1) g (ltb-true ((c .before .before .before .before .before .before .before .before .before .before .before .before .before .before .before .before .before .before .before .before .before .before) .args .at .0) ((c .before .before .before .before .before .before .before .before .before .before .before .loop) .i) (and-right (not ((c .before .before .before .before .before .before .before .before .before .before .before .loop) .replaced)) (ltb ((c .before .before .before .before .before .before .before .before .before .before .before .before .before .before .before .before .before .before .before .before .before .before) .args .at .0) ((c .before .before .before .before .before .before .before .before .before .before .before .loop) .i)) ((c .before .before .before .before .before .before .before .before .before .if1) .taken))) ((c .before .before .before .before .before .before .before .node-above) .result) ((c .before .before .before .before .before .before .before .node-above) .ensures) ((c .before .before .before .before .before .behind-child) .ensures table₀ v) ((c .before .before .before .before .before .behind-child) .kept .1 .1 .0))
 
 substitute-single-use-symbol-in-expression-gathered-requires :
-    (t : ℕ) → substitute-single-use-symbol-in-expression-lts.Need-gathered-requires (behind-links-reads.Asked, behind-links-reads.Learnt, walk-node-below t, walk-node.Post, is-replaced-reads.Asked, is-replaced-reads.Learnt, leaves-before-reads.Asked, leaves-before-reads.Learnt, behind-child-below t, behind-child.Post, gathered-reads.Asked, gathered-reads.Learnt)
+    (t : ℕ) → substitute-single-use-symbol-in-expression-lts.Need-gathered-requires (behind-links-reads.Asked, behind-links-reads.Learnt, walk-node-below t, walk-node.Post, is-replaced-reads.Asked, is-replaced-reads.Learnt, node-above-reads.Asked, node-above-reads.Learnt, behind-child-below t, behind-child.Post, gathered-reads.Asked, gathered-reads.Learnt)
     (substitute-single-use-symbol-in-expression-at t)
     substitute-single-use-symbol-in-expression.Post
     substitute-single-use-symbol-in-expression-Inv-loop
@@ -361,7 +361,7 @@ substitute-single-use-symbol-in-expression-gathered-requires :
 substitute-single-use-symbol-in-expression-gathered-requires t c κs = let g = (c .before .before .loop) .inv .2 ((c .before .before .before .before .before .before .before .before .before .before .before .before .before) .args .nodes .now) (record { links = (c .before .before .before .before .before .before .before .before .before .behind-links) .ensures .links; here = (c .before .before .before .before .before .before .before .before .before .behind-links) .ensures .here; did = (c .before .before .before .before .before .before .walk-node) .ensures; same = (c .before .before .before .before .before .before .walk-node) .kept .1 .1 .0 }) in omega (arith, within-looks (contextOf (read ((c .before .before .before .before .before .before .before .before .before .before .before .before .before) .args .file .now))) ((c .before .before .before .before .before .before .before .before .before .before .before .before .before) .args .s) ((c .before .before .before .before .before .before .before .before .before .before .before .before .before) .pre .1 .1 .1 .1) g, (c .before .before .loop) .inv .1, (c .before .before .before .before .before .before .walk-node) .kept .1 .1 .0, (c .before .before .before .before .before .before .before .before .before .before .before .before .before) .good .1 .1 .0)
 
 substitute-single-use-symbol-in-expression-same-length :
-    (t : ℕ) → substitute-single-use-symbol-in-expression-lts.Need-same-length (behind-links-reads.Asked, behind-links-reads.Learnt, walk-node-below t, walk-node.Post, is-replaced-reads.Asked, is-replaced-reads.Learnt, leaves-before-reads.Asked, leaves-before-reads.Learnt, behind-child-below t, behind-child.Post, gathered-reads.Asked, gathered-reads.Learnt)
+    (t : ℕ) → substitute-single-use-symbol-in-expression-lts.Need-same-length (behind-links-reads.Asked, behind-links-reads.Learnt, walk-node-below t, walk-node.Post, is-replaced-reads.Asked, is-replaced-reads.Learnt, node-above-reads.Asked, node-above-reads.Learnt, behind-child-below t, behind-child.Post, gathered-reads.Asked, gathered-reads.Learnt)
     (substitute-single-use-symbol-in-expression-at t)
     substitute-single-use-symbol-in-expression.Post
     substitute-single-use-symbol-in-expression-Inv-loop
@@ -369,7 +369,7 @@ substitute-single-use-symbol-in-expression-same-length :
 substitute-single-use-symbol-in-expression-same-length t c = omega (arith, (c .before .before .before .loop) .inv .1, (c .before .before .before .before .before .before .before .walk-node) .kept .1 .1 .0)
 
 substitute-single-use-symbol-in-expression-returns :
-    (t : ℕ) → substitute-single-use-symbol-in-expression-lts.Need-returns (behind-links-reads.Asked, behind-links-reads.Learnt, walk-node-below t, walk-node.Post, is-replaced-reads.Asked, is-replaced-reads.Learnt, leaves-before-reads.Asked, leaves-before-reads.Learnt, behind-child-below t, behind-child.Post, gathered-reads.Asked, gathered-reads.Learnt)
+    (t : ℕ) → substitute-single-use-symbol-in-expression-lts.Need-returns (behind-links-reads.Asked, behind-links-reads.Learnt, walk-node-below t, walk-node.Post, is-replaced-reads.Asked, is-replaced-reads.Learnt, node-above-reads.Asked, node-above-reads.Learnt, behind-child-below t, behind-child.Post, gathered-reads.Asked, gathered-reads.Learnt)
     (substitute-single-use-symbol-in-expression-at t)
     substitute-single-use-symbol-in-expression.Post
     substitute-single-use-symbol-in-expression-Inv-loop
@@ -689,7 +689,7 @@ pub +behind-child+substitute-single-use-symbol-in-expression+walk-item+walk-list
     (behind-child-of-answered-requires-3 t)
     (behind-child-same-length-5 t)
     (behind-child-returns-5 t))
-    (λ t. substitute-single-use-symbol-in-expression-lts.spec (behind-links-reads.Asked, behind-links-reads.Learnt, walk-node-below t, walk-node.Post, is-replaced-reads.Asked, is-replaced-reads.Learnt, leaves-before-reads.Asked, leaves-before-reads.Learnt, behind-child-below t, behind-child.Post, gathered-reads.Asked, gathered-reads.Learnt)
+    (λ t. substitute-single-use-symbol-in-expression-lts.spec (behind-links-reads.Asked, behind-links-reads.Learnt, walk-node-below t, walk-node.Post, is-replaced-reads.Asked, is-replaced-reads.Learnt, node-above-reads.Asked, node-above-reads.Learnt, behind-child-below t, behind-child.Post, gathered-reads.Asked, gathered-reads.Learnt)
     (substitute-single-use-symbol-in-expression-at t)
     substitute-single-use-symbol-in-expression.Post
     substitute-single-use-symbol-in-expression-Inv-loop
@@ -698,7 +698,7 @@ pub +behind-child+substitute-single-use-symbol-in-expression+walk-item+walk-list
     (substitute-single-use-symbol-in-expression-walk-node-requires t)
     (substitute-single-use-symbol-in-expression-is-replaced-requires t)
     (substitute-single-use-symbol-in-expression-loop-holds t)
-    (substitute-single-use-symbol-in-expression-leaves-before-requires t)
+    (substitute-single-use-symbol-in-expression-node-above-requires t)
     (substitute-single-use-symbol-in-expression-behind-child-requires t)
     (substitute-single-use-symbol-in-expression-add-looks t)
     (substitute-single-use-symbol-in-expression-sub-looks t)

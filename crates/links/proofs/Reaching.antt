@@ -1,0 +1,153 @@
+-- The child of a link that the search goes down to. Assumes nothing.
+use Prim.Native.Nat.{ℕ, suc, _+_, _*_, _-_, _≤_, _<_}
+use native.Mathlib.Omega.{arith}
+use mathlib.Core.Bool.{Bool, true, false, _||_}
+use mathlib.Core.List.{List}
+use mathlib.Core.Path.{_≡_, refl, sym, ap, _∙_, subst}
+use lib.ListN.{length}
+use Rattle.records.specs.Record.{nodeAt}
+use Rattle.records.specs.Tree.{nodeOf}
+use Rattle.records.specs.declared.layout.NodeRecord.{NodeRecord}
+use Rattle.walk.specs.Context.{Context}
+use Rattle.walk.specs.Effect.{hasEffect}
+use Rattle.walk.specs.Shape.{shape}
+use Rattle.walk.specs.Looks.{ownLooks}
+use Rattle.walk.specs.Substitute.{isSpecificId}
+use Rattle.plans.specs.declared.begin.Begun.{Begun}
+use Rattle.plans.specs.declared.plan.Plan.{Plan}
+use Rattle.plans.specs.declared.sought.Sought.{Sought}
+use Rattle.plans.specs.declared.walked.Answer.the-variants.{Passed}
+use Rattle.plans.specs.declared.walked.Walked.{Walked}
+use Rattle.plans.specs.Shapes.{planned}
+use Rattle.plans.specs.Plans.{isNothing}
+use Rattle.plans.specs.Begins.{BeginsAt}
+use Rattle.plans.specs.Described.{Known}
+use Rattle.plans.specs.Search.{Searchable, Searches, SearchesRow}
+use Rattle.links.specs.OfNode.{gather, isLeaf, movesLeaf, passesName, PassedLeaf}
+use Rattle.links.specs.Links.{linkPlan, linkLooks, nextOf, planBehind, onward, IsLink, Goes, OfChildren, no-leaves, one-more, Between, past-leaves, past-target, Reaches, leftFrom, EntersAt, Links, start, link, LinksTo, Going, begun, through}
+use Rattle.links.proofs.Leaves.{leaf-by}
+use Rattle.links.proofs.Searching.{searchable-room, first-searchable}
+use Rattle.links.proofs.Nodes.{begun-row}
+use Rattle.links.proofs.PlansBehind.{next-is, onward-enters, onward-behind}
+use Rattle.links.proofs.Going.{gather-none, goes-start, goes-on}
+use Rattle.links.proofs.Chain.{plan-enters, children-row, link-children, link-steady, links-seen}
+
+-- A leaf that is passed, as the search says it.
+abbrev passedLeaf : ℕ → NodeRecord → Walked
+passedLeaf at n = record { next = record { 0 = at + 1 }; place = record { 0 = at + 1 }; looks = ownLooks (nodeOf n); answer = Passed; effect = hasEffect (nodeOf n); indirect = false }
+
+leaf-is-passed : (ctx : Context) (s : Sought) {table : List ℕ} {at : ℕ} (n : NodeRecord) → n ≡ nodeAt table (16 * at) → PassedLeaf ctx s n → Searches ctx s table table at (passedLeaf at n)
+leaf-is-passed ctx s {table} {at} n e p = leaf-by ctx s (record { 0 = at }) n (hasEffect (nodeOf n)) refl (ownLooks (nodeOf n)) refl (record { 0 = at + 1 }) refl true (sym (p .passes)) refl table e (p .bare) (p .other)
+
+-- What the search of a node does from where it begins on.
+pub begun-goes : (ctx : Context) (s : Sought) {table : List ℕ} {at : ℕ} (g : Begun) → Known s → Searchable table at → BeginsAt ctx table at s g → g .indirect ≡ false
+    → Goes ctx s (OfChildren ctx s table at) (at + 1) table (g .next .0) (g .left) (g .plan) (g .effect) 0
+begun-goes ctx s g k h w i =
+    let (row, later) = begun-row ctx w k h in
+    record {
+      row = row;
+      seen = omega (arith, later);
+      on = λ {table′} {r} v replacement d pre m kids rest t b.
+          let (left, before, x) = w replacement d pre m kids rest t in
+          let (y, z) = v replacement d before left rest (x .here) (x .many) (x .bare b) in
+          (x .on i y (record { answer = refl; next = refl; effects = refl; place = refl; indirect = refl }), omega (arith, z, x .looks i));
+    }
+
+module _ (ctx : Context) (s : Sought) {table : List ℕ} {at : ℕ} where
+  -- the first child
+  pub enters-first : (n : NodeRecord) → n ≡ nodeAt table (16 * at) → Searchable table at → IsLink n s → EntersAt ctx s table at 1
+  unfolding planBehind
+  enters-first n e h l =
+      let q = nodeAt table (16 * at) in
+      let m : IsLink q s = subst (λ x. IsLink x s) e l in (
+        0,
+        record {
+          here = h;
+          other = m .other;
+          kept = m .kept;
+          own = m .looks;
+          steady = link-steady ctx s n e l;
+          above = record { later = omega arith; between = past-leaves {before = 0} (omega arith) (no-leaves refl); many = omega arith; some = m .some };
+          enters = plan-enters s (shape (nodeOf q));
+          goes = record {
+            row = children-row h;
+            seen = omega arith;
+            on = λ {table′} {r} w. link-children ctx s q refl m (subst (SearchesRow ctx s table table′ (at + 1) (q .children) (linkPlan s (shape (nodeOf q)))) (gather-none r) w);
+          };
+        },
+      )
+
+  module _ {child before left : ℕ} {effect : Bool} {looks : ℕ} (g : Reaches ctx s table at child before left effect looks) where
+    pub child-here : Searchable table child
+    child-here = first-searchable (g .goes .row) (g .above .some)
+
+    pub child-room : 16 * child + 16 ≤ length table
+    child-room = searchable-room child-here
+
+-- one leaf more stands between
+between-next : {table : List ℕ} {at child before left : ℕ} {effect : Bool} {looks : ℕ} → Between table at child before effect looks → left + before ≡ nodeAt table (16 * at) .children → 2 ≤ left → isLeaf (nodeAt table (16 * child)) ≡ true
+    → Between table at (child + 1) (before + 1) (effect || hasEffect (nodeOf (nodeAt table (16 * child)))) (looks + ownLooks (nodeOf (nodeAt table (16 * child))))
+between-next {before = before} (past-leaves e ls) m l h = past-leaves {before = before + 1} (omega (arith, e)) (one-more refl h ls)
+between-next (past-target t o c ls) m l h = absurd (omega (arith, t, m, l))
+
+-- the plan behind one child more
+plan-next : (p : Plan) (before : ℕ) → planBehind p (before + 1) ≡ nextOf (planBehind p before)
+unfolding planBehind
+plan-next p before = ap (planBehind p) (one-further before)
+  where
+    one-further : (k : ℕ) → k + 1 ≡ suc k
+    one-further k = omega arith
+
+-- the next one, behind a leaf that is passed
+pub reaches-next : (ctx : Context) (s : Sought) {table : List ℕ} {at child before left : ℕ} {effect : Bool} {looks : ℕ} → Reaches ctx s table at child before left effect looks → Known s → (n : NodeRecord) → n ≡ nodeAt table (16 * child)
+    → onward (linkPlan s (shape (nodeOf (nodeAt table (16 * at))))) ≡ true → PassedLeaf ctx s n → 2 ≤ left
+    → Reaches ctx s table at (child + 1) (before + 1) (left - 1) (effect || hasEffect (nodeOf (nodeAt table (16 * child)))) (looks + ownLooks (nodeOf (nodeAt table (16 * child))))
+reaches-next ctx s {table} {at} {child} {before} {left} {effect} {looks} g k n e p l m =
+    let q = linkPlan s (shape (nodeOf (nodeAt table (16 * at)))) in
+    record {
+      here = g .here;
+      other = g .other;
+      kept = g .kept;
+      own = g .own;
+      steady = g .steady;
+      above = record {
+        later = omega (arith, g .above .later);
+        between = between-next (g .above .between) (g .above .many) m (subst (λ x. isLeaf x ≡ true) e (l .bare));
+        many = omega (arith, g .above .many, m);
+        some = λ z. omega (arith, z, m);
+      };
+      enters = onward-enters (planBehind q (before + 1)) (onward-behind q (before + 1) p);
+      goes = subst (λ x. Goes ctx s (OfChildren ctx s table at) (at + 1) table (child + 1) (left - 1) (planBehind q (before + 1)) (effect || hasEffect (nodeOf x)) (looks + ownLooks (nodeOf x))) e
+          (goes-on ctx s (planBehind q (before + 1)) k (g .goes) (g .enters) (leaf-is-passed ctx s n e l) (g .above .some) refl refl (ap planned (plan-next q before) ∙ next-is (planBehind q before)));
+    }
+
+-- On the way down.
+module _ (ctx : Context) (s : Sought) {table : List ℕ} {at next left : ℕ} {above : NodeRecord} where
+  pub going-links : {looks : ℕ} → Going ctx s table at next left above looks → Links ctx s table at next looks
+  going-links (begun e z) = start e
+  going-links (through e r ls) = link r ls
+
+  pub going-seen : {looks : ℕ} → Going ctx s table at next left above looks → at + looks ≤ next
+  going-seen g = links-seen (going-links g)
+
+  -- past a leaf
+  pub going-on : {looks : ℕ} → Known s → Going ctx s table at next left above looks → (n : NodeRecord) → n ≡ nodeAt table (16 * next) → 2 ≤ left → onward (linkPlan s (shape (nodeOf above))) ≡ true → PassedLeaf ctx s n
+      → (own : ℕ) → own ≡ ownLooks (nodeOf n) → Searchable table (next + 1) × Going ctx s table at (next + 1) (left - 1) above (looks + own)
+  going-on k (begun e z) n f m p l own o = absurd (omega (arith, z, m))
+  going-on k (through {above = up} {looks = more} {seen = seen} e r ls) n f m p l own o =
+      let x = reaches-next ctx s r k n f (subst (λ x. onward (linkPlan s (shape (nodeOf x))) ≡ true) e p) l m in
+      let z : seen + (ownLooks (nodeOf (nodeAt table (16 * up))) + (more + ownLooks (nodeOf (nodeAt table (16 * next))))) ≡ seen + (ownLooks (nodeOf (nodeAt table (16 * up))) + more) + own = omega (arith, o, ap (λ y. ownLooks (nodeOf y)) f) in
+      (child-here ctx s x, subst (Going ctx s table at (next + 1) (left - 1) above) z (through e x ls))
+
+  -- down through a node
+  pub going-down : {looks : ℕ} → Going ctx s table at next left above looks → (n : NodeRecord) → n ≡ nodeAt table (16 * next) → (far : ℕ) → EntersAt ctx s table next far → (own : ℕ) → own ≡ linkLooks n
+      → (many : ℕ) → many ≡ leftFrom n far → Searchable table (next + far) × Going ctx s table at (next + far) many n (looks + own)
+  going-down {looks} g n f far (before, x) own o many c =
+      let z : looks + (ownLooks (nodeOf (nodeAt table (16 * next))) + 0) ≡ looks + own = omega (arith, o, ap linkLooks f, x .own) in
+      let q : leftFrom (nodeAt table (16 * next)) far ≡ many = sym (c ∙ ap (λ y. leftFrom y far) f) in
+      (child-here ctx s x, subst (Going ctx s table at (next + far) many n) z (subst (λ k. Going ctx s table at (next + far) k n (looks + (ownLooks (nodeOf (nodeAt table (16 * next))) + 0))) q (through f x (going-links g))))
+
+-- the same, of other names for the same numbers
+pub going-as : (ctx : Context) (s : Sought) (table : List ℕ) (at : ℕ) {next next′ left left′ looks looks′ : ℕ} {above above′ : NodeRecord} → next′ ≡ next → left′ ≡ left → looks′ ≡ looks → above′ ≡ above
+    → Searchable table next × Going ctx s table at next left above looks → Searchable table next′ × Going ctx s table at next′ left′ above′ looks′
+going-as ctx s table at a b c d g = rw (a, b, c, d) g

@@ -1,0 +1,203 @@
+-- An assignment whose target doesn't end the search: its value is searched. Assumes nothing.
+use Prim.Native.Nat.{ℕ, _+_, _*_, _-_}
+use native.Mathlib.Omega.{arith}
+use mathlib.Core.Bool.{Bool, true, false, cond, _&&_, _||_, not, or-false}
+use mathlib.Core.List.{List}
+use mathlib.Core.Path.{_≡_, refl, sym, ap, _∙_, subst}
+use lib.Dec.{eqb}
+use borrow.Author.Tests.{eqb-true, not-true}
+use Rattle.records.specs.Flags.{marked, compound}
+use Rattle.records.specs.Record.{nodeAt}
+use Rattle.records.specs.Tree.{Node, Tree, Trees, node, none, more, count, size, sizes, recordOf, nodeOf}
+use Rattle.records.specs.declared.layout.NodeRecord.{NodeRecord}
+use Rattle.records.specs.Place.{isExpression}
+use Rattle.records.proofs.Tests.{both, and-left}
+use Rattle.table.specs.Laid.{TreeAt}
+use Rattle.table.proofs.Laid.{first, inside}
+use Rattle.walk.specs.Context.{Context}
+use Rattle.walk.specs.Effect.{hasEffect, mayHaveSideEffects, anyHasSideEffects}
+use Rattle.walk.specs.Shape.{is, assignment, shape, cleared}
+use Rattle.walk.specs.Looks.{ownLooks}
+use Rattle.effects.specs.Passes.{Passes}
+use Rattle.plans.specs.declared.begin.Begun.{Begun}
+use Rattle.plans.specs.declared.plan.Plan.the-variants.{All}
+use Rattle.plans.specs.declared.shape.Shape.{Shape}
+use Rattle.plans.specs.declared.shape.Shape.the-variants.{Assignment, CompoundAssignment}
+use Rattle.plans.specs.declared.sought.Sought.{Sought}
+use Rattle.plans.specs.Shapes.{shaped, isAssignment, isCompound}
+use Rattle.plans.specs.Plans.{isNothing}
+use Rattle.plans.specs.Begins.{StopsAt, BeginsAt}
+use Rattle.plans.specs.Described.{Known}
+use Rattle.plans.specs.Search.{Searchable}
+use Rattle.plans.proofs.Beginning.{begins-behind}
+use Rattle.plans.proofs.Targets.{depends-name, stops-not, stops-depends}
+use Rattle.links.specs.OfNode.{leafKind, isLeaf}
+use Rattle.links.specs.Links.{linkPlan, linkLooks, planBehind, Goes, OfChildren, Steady, Leaves, no-leaves, one-more, Between, past-leaves, past-target, planAt, Reaches, leftFrom, EntersAt}
+use Rattle.links.proofs.Leaves.{either-way}
+use Rattle.links.proofs.LeavesBefore.{children-no-leaf}
+use Rattle.links.proofs.OfNode.{node-of}
+use Rattle.links.proofs.PlansBehind.{all-behind}
+use Rattle.links.proofs.Searching.{node-is, first-searchable}
+use Rattle.links.proofs.Chain.{children-row}
+use Rattle.links.proofs.Reaching.{begun-goes}
+
+-- a leaf is passed, with its own effect
+leaf-passes : {table : List ℕ} {at : ℕ} (n : NodeRecord) → n ≡ nodeAt table (16 * at) → isLeaf n ≡ true → (effect : Bool) → effect ≡ hasEffect (nodeOf n) → Passes table at 1 (at + 1) effect
+unfolding count sizes size anyHasSideEffects mayHaveSideEffects recordOf
+leaf-passes n e l effect a pre none rest h c = absurd (omega (arith, c))
+leaf-passes n e l effect a pre (more t (more u us)) rest h c = absurd (omega (arith, c))
+leaf-passes n e l effect a pre (more (node m none) none) rest h c = (
+  omega arith,
+  a ∙ ap hasEffect (ap nodeOf (node-is e (first h)) ∙ node-of m 0) ∙ no-more (hasEffect m),
+)
+  where
+    no-more : (b : Bool) → b ≡ (b || false || false)
+    no-more true = refl
+    no-more false = refl
+leaf-passes n e l effect a pre (more (node m (more x xs)) none) rest h c =
+    let z = ap (λ r. r .children) (node-is e (first h)) in
+    absurd (omega (arith, z, eqb-true (n .children) 0 (and-left (eqb (n .children) 0) (leafKind (n .kind)) l)))
+
+-- the target of an assignment, and its object
+pub target-here : {table : List ℕ} {at : ℕ} → Searchable table at → (n : NodeRecord) → n ≡ nodeAt table (16 * at) → n .children ≡ 2 → Searchable table (at + 1)
+target-here h n e two = first-searchable (children-row h) (λ z. omega (arith, z, two, ap (λ x. x .children) e))
+
+pub object-here : {table : List ℕ} {at : ℕ} → Searchable table at → (n : NodeRecord) → n ≡ nodeAt table (16 * at) → n .children ≡ 2 → (target : NodeRecord) → target ≡ nodeAt table (16 * (at + 1)) → target .children ≡ 1 → Searchable table (at + 2)
+object-here {table} {at} h n e two target t one =
+    let far : at + 1 + 1 ≡ at + 2 = omega arith in
+    subst (Searchable table) far (first-searchable (children-row (target-here h n e two)) (λ z. omega (arith, z, one, ap (λ x. x .children) t)))
+
+-- the code's shape of an assignment
+abbrev assigned : Bool → Shape
+assigned true = CompoundAssignment
+assigned false = Assignment
+
+assigned-shape : (c : Bool) → shaped (assigned c) ≡ assignment c
+assigned-shape true = refl
+assigned-shape false = refl
+
+assigned-so : (c : Bool) → (isAssignment (assigned c) ≡ true) × (c ≡ isCompound (assigned c))
+assigned-so true = (refl, refl)
+assigned-so false = (refl, refl)
+
+-- A value that stands so far behind its assignment, where the target has no effect and doesn't end the search.
+module _ (ctx : Context) (s : Sought) (table : List ℕ) (at : ℕ) (n : NodeRecord) (e : n ≡ nodeAt table (16 * at)) (kind : n .kind ≡ 20) (two : n .children ≡ 2)
+    (far : ℕ) (behind : eqb far 1 ≡ false) (some : far ≡ 0 → ⊥) (p : Passes table (at + 1) 1 (at + far) false) (w : StopsAt ctx table (at + 1) 1 s (compound (n .flags)) false false) (b : Between table at (at + far) 1 false 0) where
+  -- where the search begins
+  abbrev value : Begun
+  value = record { next = record { 0 = at + far }; left = 1; plan = All; effect = false; stops = false; indirect = false }
+
+  is-assigned : shaped (assigned (compound (n .flags))) ≡ shape (nodeOf n)
+  unfolding nodeOf shape
+  is-assigned = assigned-shape (compound (n .flags)) ∙ rw kind refl
+
+  begins : BeginsAt ctx table at s value
+  begins =
+      let (a, c) = assigned-so (compound (n .flags)) in
+      begins-behind ctx e (assigned (compound (n .flags))) is-assigned a (rw two refl) p (compound (n .flags)) c w refl (rw two refl) refl
+
+  steady : Steady ctx s table at
+  steady replacement d pre m kids rest u = begins replacement d pre m kids rest u .2 .stops-is
+
+  plan-value : planAt table s at 1 ≡ All
+  unfolding nodeOf shape
+  plan-value =
+      let shaped-so : shape (nodeOf n) ≡ assignment (compound (n .flags)) = rw kind refl in
+      ap (λ x. planBehind (linkPlan s (shape (nodeOf x))) 1) (sym e) ∙ ap (λ x. planBehind (linkPlan s x) 1) shaped-so ∙ all-behind 1
+
+  no-name : is 4 (nodeOf n) ≡ false
+  unfolding nodeOf
+  no-name = rw kind refl
+
+  no-property : cleared (nodeOf n) .flags ≡ n .flags
+  unfolding nodeOf cleared
+  no-property = rw kind refl
+
+  own-look : linkLooks n ≡ ownLooks (nodeOf n)
+  unfolding nodeOf ownLooks isExpression
+  own-look = rw kind refl
+
+  pub enters-value : Known s → Searchable table at → EntersAt ctx s table at far
+  enters-value k here =
+      let q = nodeAt table (16 * at) in
+      let c : q .children ≡ 2 = ap (λ x. x .children) (sym e) ∙ two in
+      let one : 1 ≡ leftFrom q far = sym (rw behind refl) in (
+        1,
+        subst (λ m. Reaches ctx s table at (at + far) 1 m false 0) one
+            (record {
+              here = here;
+              other = subst (λ x. is 4 (nodeOf x) ≡ false) e no-name;
+              kept = subst (λ x. cleared (nodeOf x) .flags ≡ x .flags) e no-property;
+              own = subst (λ x. linkLooks x ≡ ownLooks (nodeOf x)) e own-look;
+              steady = steady;
+              above = record { later = omega (arith, some); between = b; many = omega (arith, c); some = λ z. omega (arith, z) };
+              enters = ap isNothing plan-value;
+              goes = subst (λ p. Goes ctx s (OfChildren ctx s table at) (at + 1) table (at + far) 1 p false 0) (sym plan-value) (begun-goes ctx s value k here begins refl);
+            }),
+      )
+
+-- A bare target.
+module _ (ctx : Context) (s : Sought) (table : List ℕ) (at : ℕ) (n : NodeRecord) (target : NodeRecord) (t : target ≡ nodeAt table (16 * (at + 1))) (bare : isLeaf target ≡ true) (quiet : false ≡ hasEffect (nodeOf target)) where
+  -- it doesn't end the search
+  goes-past : (not (s .effect) || eqb (target .kind) 29 && not (compound (n .flags))) ≡ true → StopsAt ctx table (at + 1) 1 s (compound (n .flags)) false false
+  goes-past h = by (s .effect) refl h
+    where
+      by : (b : Bool) → s .effect ≡ b → (not b || eqb (target .kind) 29 && not (compound (n .flags))) ≡ true → StopsAt ctx table (at + 1) 1 s (compound (n .flags)) false false
+      by true a h =
+          let (name, simple) = both (eqb (target .kind) 29) (not (compound (n .flags))) h in
+          stops-depends ctx (compound (n .flags)) refl a (not-true (compound (n .flags)) simple) (omega arith) (depends-name ctx t name)
+      by false a h = stops-not ctx (compound (n .flags)) refl a
+
+  -- it is no look
+  no-look : (eqb (target .kind) 29 || eqb (target .kind) 30) ≡ true → ownLooks (nodeOf target) ≡ 0
+  unfolding nodeOf ownLooks isExpression
+  no-look aim = either-way (eqb (target .kind) 29) (eqb (target .kind) 30) aim (λ z. rw (eqb-true (target .kind) 29 z) refl) (λ z. rw (eqb-true (target .kind) 30 z) refl)
+
+  one-leaf : (eqb (target .kind) 29 || eqb (target .kind) 30) ≡ true → Leaves table (at + 1) (at + 2) false 0
+  one-leaf aim =
+      let q = nodeOf (nodeAt table (16 * (at + 1))) in
+      let own : ownLooks q ≡ 0 = ap (λ x. ownLooks (nodeOf x)) (sym t) ∙ no-look aim in
+      let looks : 0 + ownLooks q ≡ 0 = omega (arith, own) in
+      let effect : hasEffect q ≡ false = ap (λ x. hasEffect (nodeOf x)) (sym t) ∙ sym quiet in
+      subst (Leaves table (at + 1) (at + 2) false) looks
+      (subst (λ b. Leaves table (at + 1) (at + 2) b (0 + ownLooks q)) effect
+      (one-more (omega arith) (subst (λ x. isLeaf x ≡ true) t bare) (no-leaves refl)))
+
+  pub enters-bare : n ≡ nodeAt table (16 * at) → n .kind ≡ 20 → n .children ≡ 2 → (eqb (target .kind) 29 || eqb (target .kind) 30) ≡ true → (not (s .effect) || eqb (target .kind) 29 && not (compound (n .flags))) ≡ true
+      → Known s → Searchable table at → EntersAt ctx s table at 2
+  enters-bare e kind two aim h k here =
+      let far : at + 1 + 1 ≡ at + 2 = omega arith in
+      enters-value ctx s table at n e kind two 2 refl (λ z. omega (arith, z)) (subst (λ j. Passes table (at + 1) 1 j false) far (leaf-passes target t bare false quiet)) (goes-past h) (past-leaves {before = 1} (omega arith) (one-leaf aim)) k here
+
+-- A member of a leaf, as a target.
+module _ (ctx : Context) (s : Sought) (table : List ℕ) (at : ℕ) (n : NodeRecord) (target : NodeRecord) (t : target ≡ nodeAt table (16 * (at + 1))) (member : (eqb (target .kind) 10 || eqb (target .kind) 11) ≡ true) (one : target .children ≡ 1)
+    (object : NodeRecord) (o : object ≡ nodeAt table (16 * (at + 2))) (bare : isLeaf object ≡ true) (quiet : false ≡ hasEffect (nodeOf object)) (unmarked : marked (target .flags) ≡ false) where
+  still : false ≡ hasEffect (nodeOf target)
+  unfolding nodeOf hasEffect
+  still = either-way (eqb (target .kind) 10) (eqb (target .kind) 11) member (λ z. rw (unmarked, eqb-true (target .kind) 10 z) refl) (λ z. rw (unmarked, eqb-true (target .kind) 11 z) refl)
+
+  -- the object behind it
+  object-passes : Passes table (at + 1 + 1) 1 (at + 3) false
+  object-passes =
+      let two : at + 2 ≡ at + 1 + 1 = omega arith in
+      let three : at + 2 + 1 ≡ at + 3 = omega arith in
+      subst (λ j. Passes table j 1 (at + 3) false) two (subst (λ j. Passes table (at + 2) 1 j false) three (leaf-passes object o bare false quiet))
+
+  member-passes : Passes table (at + 1) 1 (at + 3) false
+  unfolding count sizes size anyHasSideEffects mayHaveSideEffects recordOf
+  member-passes pre none rest h c = absurd (omega (arith, c))
+  member-passes pre (more t′ (more u us)) rest h c = absurd (omega (arith, c))
+  member-passes pre (more (node m kids) none) rest h c =
+      let z = node-is t (first h) in
+      let (x, y) = object-passes _ kids _ (inside (first h)) (sym (ap (λ r. r .children) z) ∙ one) in
+      let a : false ≡ hasEffect m = still ∙ ap hasEffect (ap nodeOf z ∙ node-of m (count kids)) in
+      (omega (arith, x), rw (← a, ← y) refl)
+
+  no-leaf : isLeaf (nodeAt table (16 * (at + 1))) ≡ false
+  no-leaf = children-no-leaf (nodeAt table (16 * (at + 1))) (λ z. omega (arith, z, one, ap (λ x. x .children) t))
+
+  pub enters-member : n ≡ nodeAt table (16 * at) → n .kind ≡ 20 → n .children ≡ 2 → StopsAt ctx table (at + 1) 1 s (compound (n .flags)) false false → Known s → Searchable table at → EntersAt ctx s table at 3
+  enters-member e kind two w k here =
+      enters-value ctx s table at n e kind two 3 refl (λ z. omega (arith, z)) member-passes w
+      (past-target (ap (λ x. x .children) (sym e) ∙ two) no-leaf (omega (arith, one, ap (λ x. x .children) t)) (one-more (omega arith) (subst (λ x. isLeaf x ≡ true) o bare) (no-leaves refl)))
+      k here

@@ -1,0 +1,118 @@
+use native.Mathlib.Omega.{arith}
+use Prim.Native.Nat.{ℕ, _+_, _-_, _*_, _<_}
+use mathlib.Core.Bool.{true, false}
+use mathlib.Core.Logic.{⊎-elim}
+use mathlib.Core.Path.{_≡_, refl, sym, ap, _∙_}
+use borrow.Author.Tests.{not-false}
+use lib.ListN.{length}
+use Rattle.records.specs.Record.{nodeAt}
+use Rattle.records.specs.File.{read}
+use Rattle.walk.specs.Context.{contextOf}
+use Rattle.plans.specs.Search.{Searchable}
+use Rattle.links.specs.Links.{leftFrom, Going, begun}
+use Rattle.links.proofs.Searching.{searchable-room}
+use Rattle.links.proofs.Reaching.{going-links, going-seen, going-on, going-down, going-as}
+use Rattle.links.proofs.descent.behind_links.Statement.{statement}
+use Rattle.links.proofs.descent.behind_links.Tie as tie
+use Rattle.links.proofs.descent.behind_links.Reads as reads
+use Rattle.links.proofs.descent.behind_links.Lts as lts
+use Rattle.links.proofs.descent.distance.Reads as distance-reads
+use Rattle.links.proofs.descent.left_from.Reads as left-from-reads
+use Rattle.links.proofs.leaf.leaf_looks.Reads as leaf-looks-reads
+use Rattle.links.proofs.leaf.passes_leaf.Reads as passes-leaf-reads
+use Rattle.links.proofs.link.enters_all.Reads as enters-all-reads
+use Rattle.links.proofs.link.link_looks.Reads as link-looks-reads
+use Rattle.table.proofs.work_node.Reads as work-node-reads
+
+abbrev Inv-loop : tie.InvT-loop
+Inv-loop file h nodes s next₀ left₀ looks₀ n₀ link₀ next left looks n link = (n ≡ nodeAt nodes (16 * next)) × (Searchable nodes next × Going (contextOf (read file)) s nodes next₀ next left link looks)
+
+abbrev μ-loop : tie.MeasureT-loop
+μ-loop file h nodes s next₀ left₀ looks₀ n₀ link₀ next left looks n link = length nodes - 16 * next
+
+work-node-requires : tie.Need-work-node-requires Inv-loop μ-loop
+work-node-requires c κs = searchable-room ((c .before .before) .pre .1 .1 .0)
+
+loop-holds : tie.Need-loop-holds Inv-loop μ-loop
+loop-holds c = ((c .work-node) .ensures, ((c .before .before .before) .pre .1 .1 .0, begun refl refl))
+
+enters-all-requires : tie.Need-enters-all-requires Inv-loop μ-loop
+enters-all-requires c κs = tt
+
+passes-leaf-requires : tie.Need-passes-leaf-requires Inv-loop μ-loop
+passes-leaf-requires c κs = ((c .before .before .before .before .before .before .before .before .before) .pre .0, (c .before .before .before .before .before .before .before .before .before) .pre .1 .0)
+
+leaf-looks-requires : tie.Need-leaf-looks-requires Inv-loop μ-loop
+leaf-looks-requires c κs = tt
+
+add-looks : tie.Need-add-looks Inv-loop μ-loop
+add-looks c = omega (arith, (c .leaf-looks) .ensures .1, searchable-room ((c .before .before .before .before .before .before .before .before .loop) .inv .1 .0), going-seen (contextOf (read ((c .before .before .before .before .before .before .before .before .before .before .before .before) .args .file .now))) ((c .before .before .before .before .before .before .before .before .before .before .before .before) .args .s) ((c .before .before .before .before .before .before .before .before .loop) .inv .1 .1))
+
+add-next : tie.Need-add-next Inv-loop μ-loop
+add-next c = omega (arith, searchable-room ((c .before .before .before .before .before .before .before .before .loop) .inv .1 .0))
+
+sub-left : tie.Need-sub-left Inv-loop μ-loop
+sub-left c = omega (arith, (c .before .before .before .before .before .if2) .left)
+
+distance-requires : tie.Need-distance-requires Inv-loop μ-loop
+distance-requires c κs = ((c .before .before .before .before .before .before) .pre .0, ((c .before .before .before .before .before .before) .pre .1 .0, ((c .before .before .loop) .inv .1 .0, (c .before .before .loop) .inv .0)))
+
+link-looks-requires : tie.Need-link-looks-requires Inv-loop μ-loop
+link-looks-requires c κs = tt
+
+add-looks-2 : tie.Need-add-looks-2 Inv-loop μ-loop
+add-looks-2 c = omega (arith, (c .link-looks) .ensures .1, searchable-room ((c .before .before .before .before .before .loop) .inv .1 .0), going-seen (contextOf (read ((c .before .before .before .before .before .before .before .before .before) .args .file .now))) ((c .before .before .before .before .before .before .before .before .before) .args .s) ((c .before .before .before .before .before .loop) .inv .1 .1))
+
+add-next-2 : tie.Need-add-next-2 Inv-loop μ-loop
+add-next-2 c = let x = (c .before .before .distance) .ensures ((c .before .if5) .left) ((c .before .before .before .before .before .before .before .before .before) .pre .1 .1 .1) in omega (arith, searchable-room (going-down (contextOf (read ((c .before .before .before .before .before .before .before .before .before) .args .file .now))) ((c .before .before .before .before .before .before .before .before .before) .args .s) ((c .before .before .before .before .before .loop) .inv .1 .1) ((c .before .before .before .before .before .loop) .n) ((c .before .before .before .before .before .loop) .inv .0) ((c .before .before .distance) .result) x ((c .link-looks) .result) ((c .link-looks) .ensures .0) (leftFrom ((c .before .before .before .before .before .loop) .n) ((c .before .before .distance) .result)) refl .0))
+
+left-from-requires : tie.Need-left-from-requires Inv-loop μ-loop
+left-from-requires c κs = tt
+
+work-node-requires-2 : tie.Need-work-node-requires-2 Inv-loop μ-loop
+work-node-requires-2 c κs = let ctx = contextOf (read ((c .before .before .before .before .before .before) .args .file .now)) in let s = (c .before .before .before .before .before .before) .args .s in let t = (c .before .before .before .before .before .before) .args .nodes .now in let g = ⊎-elim (λ x. going-as ctx s t ((c .before .before .before .before .before .before) .args .at .0) (x .7) (x .8) (x .9) (x .10) (going-on ctx s ((c .before .before .before .before .before .before) .pre .1 .1 .1) ((c .before .before .loop) .inv .1 .1) ((c .before .before .loop) .n) ((c .before .before .loop) .inv .0) (x .1 .left) (x .2 .ensures (not-false (x .2 .result) (x .3 .left))) (x .4 .ensures (not-false (x .4 .result) (x .5 .left))) (x .6 .result) (x .6 .ensures .0 ((x .4 .ensures (not-false (x .4 .result) (x .5 .left))) .bare)))) (λ y. going-as ctx s t ((c .before .before .before .before .before .before) .args .at .0) (y .5) (y .6) (y .7) (y .8) (going-down ctx s ((c .before .before .loop) .inv .1 .1) ((c .before .before .loop) .n) ((c .before .before .loop) .inv .0) (y .1 .result) (y .1 .ensures (y .2 .left) ((c .before .before .before .before .before .before) .pre .1 .1 .1)) (y .3 .result) (y .3 .ensures .0) (y .4 .result) (y .4 .ensures))) ((c .if1) .came) in searchable-room (g .0)
+
+loop-less : tie.Need-loop-less Inv-loop μ-loop
+loop-less c = let far : (c .before .before .before .loop) .next < (c .before .if1) .next = ⊎-elim (λ x. omega (arith, x .7)) (λ y. omega (arith, y .5, y .2 .left)) ((c .before .if1) .came) in omega (arith, far, searchable-room ((c .before .before .before .loop) .inv .1 .0))
+
+loop-again : tie.Need-loop-again Inv-loop μ-loop
+loop-again c = let ctx = contextOf (read ((c .before .before .before .before .before .before .before) .args .file .now)) in let s = (c .before .before .before .before .before .before .before) .args .s in let t = (c .before .before .before .before .before .before .before) .args .nodes .now in ((c .work-node2) .ensures, ⊎-elim (λ x. going-as ctx s t ((c .before .before .before .before .before .before .before) .args .at .0) (x .7) (x .8) (x .9) (x .10) (going-on ctx s ((c .before .before .before .before .before .before .before) .pre .1 .1 .1) ((c .before .before .before .loop) .inv .1 .1) ((c .before .before .before .loop) .n) ((c .before .before .before .loop) .inv .0) (x .1 .left) (x .2 .ensures (not-false (x .2 .result) (x .3 .left))) (x .4 .ensures (not-false (x .4 .result) (x .5 .left))) (x .6 .result) (x .6 .ensures .0 ((x .4 .ensures (not-false (x .4 .result) (x .5 .left))) .bare)))) (λ y. going-as ctx s t ((c .before .before .before .before .before .before .before) .args .at .0) (y .5) (y .6) (y .7) (y .8) (going-down ctx s ((c .before .before .before .loop) .inv .1 .1) ((c .before .before .before .loop) .n) ((c .before .before .before .loop) .inv .0) (y .1 .result) (y .1 .ensures (y .2 .left) ((c .before .before .before .before .before .before .before) .pre .1 .1 .1)) (y .3 .result) (y .3 .ensures .0) (y .4 .result) (y .4 .ensures))) ((c .before .if1) .came))
+
+returns : tie.Need-returns Inv-loop μ-loop
+returns c = record { links = going-links (contextOf (read ((c .before .before .before .before .before .before .before) .args .file .now))) ((c .before .before .before .before .before .before .before) .args .s) ((c .before .before .before .loop) .inv .1 .1); here = (c .before .before .before .loop) .inv .1 .0 }
+
+returns-2 : tie.Need-returns-2 Inv-loop μ-loop
+returns-2 c = record { links = going-links (contextOf (read ((c .before .before .before .before .before .before .before .before .before) .args .file .now))) ((c .before .before .before .before .before .before .before .before .before) .args .s) ((c .before .before .before .before .before .loop) .inv .1 .1); here = (c .before .before .before .before .before .loop) .inv .1 .0 }
+
+returns-3 : tie.Need-returns-3 Inv-loop μ-loop
+returns-3 c = record { links = going-links (contextOf (read ((c .before .before .before .before .before .before .before .before .before .before .before) .args .file .now))) ((c .before .before .before .before .before .before .before .before .before .before .before) .args .s) ((c .before .before .before .before .before .before .before .loop) .inv .1 .1); here = (c .before .before .before .before .before .before .before .loop) .inv .1 .0 }
+
+returns-4 : tie.Need-returns-4 Inv-loop μ-loop
+returns-4 c = record { links = going-links (contextOf (read ((c .before .before .before .before .before .before .before .before) .args .file .now))) ((c .before .before .before .before .before .before .before .before) .args .s) ((c .before .before .before .before .loop) .inv .1 .1); here = (c .before .before .before .before .loop) .inv .1 .0 }
+
+pub behind-links-spec : {M : Type 1} → statement M
+behind-links-spec =
+    tie.close
+    (tie.spec
+    Inv-loop
+    μ-loop
+    work-node-requires
+    loop-holds
+    enters-all-requires
+    passes-leaf-requires
+    leaf-looks-requires
+    add-looks
+    add-next
+    sub-left
+    distance-requires
+    link-looks-requires
+    add-looks-2
+    add-next-2
+    left-from-requires
+    work-node-requires-2
+    loop-less
+    loop-again
+    returns
+    returns-2
+    returns-3
+    returns-4)

@@ -1,0 +1,161 @@
+use mathlib.Core.Path.{_≡_, refl, sym, ap, _∙_}
+use Rattle.records.specs.Tree.{nodeOf}
+use Rattle.walk.specs.Shape.{shape}
+use Rattle.plans.specs.Shapes.{shaped}
+use Rattle.links.specs.Links.{linkPlan}
+use borrow.Author.Needs.{needs}
+use Rattle.links.proofs.link.link_plan.Statement.{statement}
+use Rattle.links.proofs.link.link_plan.Tie as tie
+use Rattle.links.proofs.link.link_plan.Reads as reads
+use Rattle.links.proofs.link.link_plan.Lts as lts
+use Rattle.plans.proofs.shape.shape_of.Reads as shape-of-reads
+use Rattle.links.proofs.link.first_or.Reads as first-or-reads
+
+shape-of-requires : tie.Need-shape-of-requires
+shape-of-requires c κs = search needs
+
+enum-told : tie.Need-enum-told
+enum-told c = search needs
+
+enum-told-2 : tie.Need-enum-told-2
+enum-told-2 c = search needs
+
+enum-told-3 : tie.Need-enum-told-3
+enum-told-3 c = search needs
+
+enum-told-4 : tie.Need-enum-told-4
+enum-told-4 c = search needs
+
+enum-told-5 : tie.Need-enum-told-5
+enum-told-5 c = search needs
+
+enum-told-6 : tie.Need-enum-told-6
+enum-told-6 c = search needs
+
+enum-told-7 : tie.Need-enum-told-7
+enum-told-7 c = search needs
+
+enum-told-8 : tie.Need-enum-told-8
+enum-told-8 c = search needs
+
+enum-told-9 : tie.Need-enum-told-9
+enum-told-9 c = search needs
+
+enum-told-10 : tie.Need-enum-told-10
+enum-told-10 c = search needs
+
+enum-told-11 : tie.Need-enum-told-11
+enum-told-11 c = search needs
+
+enum-told-12 : tie.Need-enum-told-12
+enum-told-12 c = search needs
+
+enum-told-13 : tie.Need-enum-told-13
+enum-told-13 c = search needs
+
+first-or-requires : tie.Need-first-or-requires
+first-or-requires c κs = search needs
+
+enum-told-14 : tie.Need-enum-told-14
+enum-told-14 c = search needs
+
+first-or-requires-2 : tie.Need-first-or-requires-2
+first-or-requires-2 c κs = search needs
+
+enum-told-15 : tie.Need-enum-told-15
+enum-told-15 c = search needs
+
+first-or-requires-3 : tie.Need-first-or-requires-3
+first-or-requires-3 c κs = search needs
+
+enum-told-16 : tie.Need-enum-told-16
+enum-told-16 c = search needs
+
+returns : tie.Need-returns
+returns c = ap (λ x. linkPlan ((c .before .before .before) .args .s) (shaped x)) (sym ((c .enum-told) .given .1)) ∙ ap (linkPlan ((c .before .before .before) .args .s)) ((c .before .before .shape-of) .ensures)
+
+returns-2 : tie.Need-returns-2
+returns-2 c = ap (λ x. linkPlan ((c .before .before .before) .args .s) (shaped x)) (sym ((c .enum-told2) .given .1)) ∙ ap (linkPlan ((c .before .before .before) .args .s)) ((c .before .before .shape-of) .ensures)
+
+returns-3 : tie.Need-returns-3
+returns-3 c = ap (λ x. linkPlan ((c .before .before .before) .args .s) (shaped x)) (sym ((c .enum-told3) .given .1)) ∙ ap (linkPlan ((c .before .before .before) .args .s)) ((c .before .before .shape-of) .ensures)
+
+returns-4 : tie.Need-returns-4
+returns-4 c = ap (λ x. linkPlan ((c .before .before .before) .args .s) (shaped x)) (sym ((c .enum-told4) .given .1)) ∙ ap (linkPlan ((c .before .before .before) .args .s)) ((c .before .before .shape-of) .ensures)
+
+returns-5 : tie.Need-returns-5
+returns-5 c = ap (λ x. linkPlan ((c .before .before .before) .args .s) (shaped x)) (sym ((c .enum-told5) .given .1)) ∙ ap (linkPlan ((c .before .before .before) .args .s)) ((c .before .before .shape-of) .ensures)
+
+returns-6 : tie.Need-returns-6
+returns-6 c = ap (λ x. linkPlan ((c .before .before .before) .args .s) (shaped x)) (sym ((c .enum-told6) .given .1)) ∙ ap (linkPlan ((c .before .before .before) .args .s)) ((c .before .before .shape-of) .ensures)
+
+returns-7 : tie.Need-returns-7
+returns-7 c = ap (λ x. linkPlan ((c .before .before .before) .args .s) (shaped x)) (sym ((c .enum-told7) .given .1)) ∙ ap (linkPlan ((c .before .before .before) .args .s)) ((c .before .before .shape-of) .ensures)
+
+returns-8 : tie.Need-returns-8
+returns-8 c = ap (λ x. linkPlan ((c .before .before .before) .args .s) (shaped x)) (sym ((c .enum-told8) .given .1)) ∙ ap (linkPlan ((c .before .before .before) .args .s)) ((c .before .before .shape-of) .ensures)
+
+returns-9 : tie.Need-returns-9
+returns-9 c = ap (λ x. linkPlan ((c .before .before .before) .args .s) (shaped x)) (sym ((c .enum-told9) .given .1)) ∙ ap (linkPlan ((c .before .before .before) .args .s)) ((c .before .before .shape-of) .ensures)
+
+returns-10 : tie.Need-returns-10
+returns-10 c = ap (λ x. linkPlan ((c .before .before .before) .args .s) (shaped x)) (sym ((c .enum-told10) .given .1)) ∙ ap (linkPlan ((c .before .before .before) .args .s)) ((c .before .before .shape-of) .ensures)
+
+returns-11 : tie.Need-returns-11
+returns-11 c = ap (λ x. linkPlan ((c .before .before .before) .args .s) (shaped x)) (sym ((c .enum-told11) .given .1)) ∙ ap (linkPlan ((c .before .before .before) .args .s)) ((c .before .before .shape-of) .ensures)
+
+returns-12 : tie.Need-returns-12
+returns-12 c = ap (λ x. linkPlan ((c .before .before .before) .args .s) (shaped x)) (sym ((c .enum-told12) .given .1)) ∙ ap (linkPlan ((c .before .before .before) .args .s)) ((c .before .before .shape-of) .ensures)
+
+returns-13 : tie.Need-returns-13
+returns-13 c = (c .first-or) .ensures ∙ ap (λ x. linkPlan ((c .before .before .before .before) .args .s) (shaped x)) (sym ((c .before .enum-told13) .given .1)) ∙ ap (linkPlan ((c .before .before .before .before) .args .s)) ((c .before .before .before .shape-of) .ensures)
+
+returns-14 : tie.Need-returns-14
+returns-14 c = (c .first-or2) .ensures ∙ ap (λ x. linkPlan ((c .before .before .before .before) .args .s) (shaped x)) (sym ((c .before .enum-told14) .given .1)) ∙ ap (linkPlan ((c .before .before .before .before) .args .s)) ((c .before .before .before .shape-of) .ensures)
+
+returns-15 : tie.Need-returns-15
+returns-15 c = (c .first-or3) .ensures ∙ ap (λ x. linkPlan ((c .before .before .before .before) .args .s) (shaped x)) (sym ((c .before .enum-told15) .given .1)) ∙ ap (linkPlan ((c .before .before .before .before) .args .s)) ((c .before .before .before .shape-of) .ensures)
+
+returns-16 : tie.Need-returns-16
+returns-16 c = ap (λ x. linkPlan ((c .before .before .before) .args .s) (shaped x)) (sym ((c .enum-told16) .given .1)) ∙ ap (linkPlan ((c .before .before .before) .args .s)) ((c .before .before .shape-of) .ensures)
+
+pub link-plan-spec : {M : Type 1} → statement M
+link-plan-spec =
+    tie.close
+    (tie.spec
+    shape-of-requires
+    enum-told
+    enum-told-2
+    enum-told-3
+    enum-told-4
+    enum-told-5
+    enum-told-6
+    enum-told-7
+    enum-told-8
+    enum-told-9
+    enum-told-10
+    enum-told-11
+    enum-told-12
+    enum-told-13
+    first-or-requires
+    enum-told-14
+    first-or-requires-2
+    enum-told-15
+    first-or-requires-3
+    enum-told-16
+    returns
+    returns-2
+    returns-3
+    returns-4
+    returns-5
+    returns-6
+    returns-7
+    returns-8
+    returns-9
+    returns-10
+    returns-11
+    returns-12
+    returns-13
+    returns-14
+    returns-15
+    returns-16)

@@ -1,0 +1,14 @@
+-- `links::node::is_specific_id` meets its contract. Assumes nothing.
+use mathlib.Core.Bool.{Bool, true, false, cond, _&&_, _||_, not}
+use mathlib.Core.Path.{_≡_, refl, sym, ap, _∙_, subst}
+use Rattle.records.specs.Tree.{nodeOf}
+use Rattle.walk.specs.Substitute.{isSpecificId}
+use Rattle.links.proofs.node.is_specific_id.Statement.{statement}
+use Rattle.links.proofs.node.is_specific_id.Tie as tie
+
+returns : tie.Need-returns
+unfolding isSpecificId nodeOf
+returns c = refl
+
+pub is-specific-id-spec : {M : Type 1} → statement M
+is-specific-id-spec = tie.close (tie.spec returns)

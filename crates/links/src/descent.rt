@@ -1,0 +1,99 @@
+// The way down through links, past leaves and targets.
+ghost use mathlib.Core.Path.{_≡_};
+ghost use Prim.Native.Nat.{_*_};
+ghost use lib.ListN.{length};
+ghost use Rattle.records.specs.Record.{headerOf, nodeAt};
+ghost use Rattle.records.specs.File.{fileLength, read};
+ghost use Rattle.walk.specs.Context.{contextOf};
+ghost use Rattle.plans.specs.Described.{Known};
+ghost use Rattle.plans.specs.Search.{Searchable};
+ghost use Rattle.links.specs.Links.{EntersAt, leftFrom, LinksTo};
+use crate::leaf::leaf_looks;
+use crate::leaf::passes_leaf;
+use crate::link::enters_all;
+use crate::link::is_link;
+use crate::link::link_looks;
+use crate::value::value_distance;
+use plans::sought::Sought;
+use records::layout::Header;
+use records::layout::NodeId;
+use records::layout::NodeRecord;
+use records::number::size;
+use table::work_node;
+
+// How far behind a node its first child stands that is searched: 1, or further behind a target; 0, if the search doesn't go
+// down through the node.
+fn distance(file: &[u8], h: Header, nodes: &[u8], at: NodeId, n: NodeRecord, s: Sought) -> usize
+    requires { ⌜ h ≡ headerOf (now file) ⌝ }
+    requires { ⌜ length (now file) ≡ fileLength h ⌝ }
+    requires { ⌜ Searchable (now nodes) (at .0) ⌝ }
+    requires { ⌜ n ≡ nodeAt (now nodes) (16 * at .0) ⌝ }
+    ensures { λ r. ⌜ ((r ≡ 0 → ⊥) → Known s → EntersAt (contextOf (read (now (file .entry)))) s (now (nodes .entry)) (at .0) r) ⌝ }
+{
+    if is_link(n, s) {
+        return 1;
+    }
+    value_distance(file, h, nodes, at, n, s)
+}
+
+// So many of a node's children are left from the first that is searched on.
+fn left_from(n: NodeRecord, far: usize) -> usize
+    ensures { λ r. ⌜ r ≡ leftFrom n far ⌝ }
+{
+    if far == 1 {
+        return size(n.children);
+    }
+    1
+}
+
+// Where the way down ends, and the looks on it.
+pub struct Descent {
+    pub node: NodeId,
+    pub looks: usize,
+}
+
+// The first node from `at` on that the search doesn't go down through. Leaves are passed where each child of the last link is
+// searched; the last one isn't.
+pub fn behind_links(file: &[u8], h: Header, nodes: &[u8], at: NodeId, s: Sought) -> Descent
+    requires { ⌜ h ≡ headerOf (now file) ⌝ }
+    requires { ⌜ length (now file) ≡ fileLength h ⌝ }
+    requires { ⌜ Searchable (now nodes) (at .0) ⌝ }
+    requires { ⌜ Known s ⌝ }
+    ensures { λ r. ⌜ LinksTo (contextOf (read (now (file .entry)))) s (now (nodes .entry)) (at .0) (r .node .0) (r .looks) ⌝ }
+{
+    let mut next = at.0;
+    let mut left: usize = 1;
+    let mut looks: usize = 0;
+    let mut n = work_node(nodes, at);
+    let mut link = n;
+    loop {
+        if n.children == 0 {
+            if left < 2 {
+                break;
+            }
+            if !enters_all(link, s) {
+                break;
+            }
+            if !passes_leaf(file, h, n, s) {
+                break;
+            }
+            looks += leaf_looks(n);
+            next += 1;
+            left -= 1;
+        } else {
+            let step = distance(file, h, nodes, NodeId(next), n, s);
+            if step == 0 {
+                break;
+            }
+            looks += link_looks(n);
+            next += step;
+            left = left_from(n, step);
+            link = n;
+        }
+        n = work_node(nodes, NodeId(next));
+    }
+    Descent {
+        node: NodeId(next),
+        looks,
+    }
+}

@@ -1,0 +1,9 @@
+// The parts of the walk below its cycle: leaves, links and values, the way down through them and back, and a node from what the
+// search of its children did.
+pub mod above;
+pub mod descent;
+pub mod leaf;
+pub mod link;
+pub mod node;
+pub mod outcome;
+pub mod value;
