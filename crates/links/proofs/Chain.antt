@@ -74,7 +74,7 @@ plan-enters s (steps picks) = by-test isNothing (s .effect) Test refl refl
 
 -- A link, by its shape.
 module _ (n : NodeRecord) (s : Sought) (some : n .children ≡ 0 → ⊥) (other : is 4 (nodeOf n) ≡ false) (kept : cleared (nodeOf n) .flags ≡ n .flags) (looks : linkLooks n ≡ ownLooks (nodeOf n)) where
-  by-choice : (ctx : Context) (name : ℕ) (replacement : Tree) → Describes s replacement → (c : Choice) (kids : Trees) → keepsCallee replacement (nodeOf n) kids ≡ false → keepsIndirect name replacement (nodeOf n) kids ≡ false
+  pub by-choice : (ctx : Context) (name : ℕ) (replacement : Tree) → Describes s replacement → (c : Choice) (kids : Trees) → keepsCallee replacement (nodeOf n) kids ≡ false → keepsIndirect name replacement (nodeOf n) kids ≡ false
       → planned (linkPlan s (steps c)) ≡ plan ctx name replacement (steps c) (nodeOf n) kids
   unfolding plan planFor
   by-choice ctx name replacement d never kids k i = rw (k, i) refl
@@ -105,7 +105,7 @@ module _ (n : NodeRecord) (s : Sought) (some : n .children ≡ 0 → ⊥) (other
   }
 
 -- the children of a node, as a row
-counted : {table : List ℕ} {at : ℕ} {m : Node} {kids : Trees} {pre rest : List ℕ} (n : NodeRecord) → n ≡ nodeAt table (16 * at) → TreeAt table at (node m kids) pre rest → count kids ≡ n .children
+pub counted : {table : List ℕ} {at : ℕ} {m : Node} {kids : Trees} {pre rest : List ℕ} (n : NodeRecord) → n ≡ nodeAt table (16 * at) → TreeAt table at (node m kids) pre rest → count kids ≡ n .children
 unfolding recordOf
 counted n e t = sym (ap (λ x. x .children) (node-is e t))
 

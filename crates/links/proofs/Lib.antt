@@ -16,3 +16,4 @@ pub mod Reaching
 pub mod Values
 pub mod Moving
 pub mod LinkKinds
+pub mod Calls

@@ -10,7 +10,7 @@ use Rattle.records.specs.Tree.{nodeOf}
 use Rattle.records.specs.declared.layout.NodeRecord.{NodeRecord}
 use Rattle.walk.specs.Context.{Context}
 use Rattle.walk.specs.Effect.{hasEffect}
-use Rattle.walk.specs.Shape.{shape}
+use Rattle.walk.specs.Shape.{is, shape, cleared}
 use Rattle.walk.specs.Looks.{ownLooks}
 use Rattle.walk.specs.Substitute.{isSpecificId}
 use Rattle.plans.specs.declared.begin.Begun.{Begun}
@@ -24,7 +24,7 @@ use Rattle.plans.specs.Begins.{BeginsAt}
 use Rattle.plans.specs.Described.{Known}
 use Rattle.plans.specs.Search.{Searchable, Searches, SearchesRow}
 use Rattle.links.specs.OfNode.{gather, isLeaf, movesLeaf, passesName, PassedLeaf}
-use Rattle.links.specs.Links.{linkPlan, linkLooks, nextOf, planBehind, onward, IsLink, Goes, OfChildren, no-leaves, one-more, Between, past-leaves, past-target, Reaches, leftFrom, EntersAt, Links, start, link, LinksTo, Going, begun, through}
+use Rattle.links.specs.Links.{linkPlan, linkLooks, nextOf, planBehind, onward, IsLink, Goes, OfChildren, Steady, no-leaves, one-more, Between, past-leaves, past-target, Reaches, leftFrom, EntersAt, Links, start, link, LinksTo, Going, begun, through}
 use Rattle.links.proofs.Leaves.{leaf-by}
 use Rattle.links.proofs.Searching.{searchable-room, first-searchable}
 use Rattle.links.proofs.Nodes.{begun-row}
@@ -54,28 +54,34 @@ begun-goes ctx s g k h w i =
     }
 
 module _ (ctx : Context) (s : Sought) {table : List ℕ} {at : ℕ} where
-  -- the first child
-  pub enters-first : (n : NodeRecord) → n ≡ nodeAt table (16 * at) → Searchable table at → IsLink n s → EntersAt ctx s table at 1
+  -- the first child, of a node of which this is known
+  pub enters-by : (n : NodeRecord) → n ≡ nodeAt table (16 * at) → Searchable table at → (n .children ≡ 0 → ⊥) → is 4 (nodeOf n) ≡ false → cleared (nodeOf n) .flags ≡ n .flags → linkLooks n ≡ ownLooks (nodeOf n) → Steady ctx s table at
+      → ((table′ : List ℕ) (r : Walked) → SearchesRow ctx s table table′ (at + 1) (n .children) (linkPlan s (shape (nodeOf n))) r → OfChildren ctx s table at table′ r) → EntersAt ctx s table at 1
   unfolding planBehind
-  enters-first n e h l =
+  enters-by n e h some other kept looks steady on =
       let q = nodeAt table (16 * at) in
-      let m : IsLink q s = subst (λ x. IsLink x s) e l in (
+      let there : q .children ≡ 0 → ⊥ = λ z. some (ap (λ x. x .children) e ∙ z) in (
         0,
         record {
           here = h;
-          other = m .other;
-          kept = m .kept;
-          own = m .looks;
-          steady = link-steady ctx s n e l;
-          above = record { later = omega arith; between = past-leaves {before = 0} (omega arith) (no-leaves refl); many = omega arith; some = m .some };
+          other = subst (λ x. is 4 (nodeOf x) ≡ false) e other;
+          kept = subst (λ x. cleared (nodeOf x) .flags ≡ x .flags) e kept;
+          own = subst (λ x. linkLooks x ≡ ownLooks (nodeOf x)) e looks;
+          steady = steady;
+          above = record { later = omega arith; between = past-leaves {before = 0} (omega arith) (no-leaves refl); many = omega arith; some = there };
           enters = plan-enters s (shape (nodeOf q));
           goes = record {
             row = children-row h;
             seen = omega arith;
-            on = λ {table′} {r} w. link-children ctx s q refl m (subst (SearchesRow ctx s table table′ (at + 1) (q .children) (linkPlan s (shape (nodeOf q)))) (gather-none r) w);
+            on = λ {table′} {r} w.
+                on table′ (gather false 0 r) (subst (λ x. SearchesRow ctx s table table′ (at + 1) (x .children) (linkPlan s (shape (nodeOf x))) (gather false 0 r)) (sym e)
+                (subst (SearchesRow ctx s table table′ (at + 1) (q .children) (linkPlan s (shape (nodeOf q)))) (gather-none r) w));
           };
         },
       )
+
+  pub enters-first : (n : NodeRecord) → n ≡ nodeAt table (16 * at) → Searchable table at → IsLink n s → EntersAt ctx s table at 1
+  enters-first n e h l = enters-by n e h (l .some) (l .other) (l .kept) (l .looks) (link-steady ctx s n e l) (λ table′ r w. link-children ctx s n e l w)
 
   module _ {child before left : ℕ} {effect : Bool} {looks : ℕ} (g : Reaches ctx s table at child before left effect looks) where
     pub child-here : Searchable table child

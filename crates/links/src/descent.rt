@@ -1,10 +1,11 @@
 // The way down through links, past leaves and targets.
+ghost use mathlib.Core.Bool.{true};
 ghost use mathlib.Core.Path.{_≡_};
 ghost use Prim.Native.Nat.{_*_};
 ghost use lib.ListN.{length};
 ghost use Rattle.records.specs.Record.{headerOf, nodeAt};
 ghost use Rattle.records.specs.File.{fileLength, read};
-ghost use Rattle.walk.specs.Context.{contextOf};
+ghost use Rattle.walk.specs.Context.{Context, contextOf};
 ghost use Rattle.plans.specs.Described.{Known};
 ghost use Rattle.plans.specs.Search.{Searchable};
 ghost use Rattle.links.specs.Links.{EntersAt, leftFrom, LinksTo};
@@ -14,12 +15,30 @@ use crate::link::enters_all;
 use crate::link::is_link;
 use crate::link::link_looks;
 use crate::value::value_distance;
+use plans::child::first_child;
 use plans::sought::Sought;
 use records::layout::Header;
 use records::layout::NodeId;
 use records::layout::NodeRecord;
 use records::number::size;
 use table::work_node;
+
+// A call, a `new` or a tagged template whose first child is no plain name: it is searched, whatever is to be placed.
+fn calls_no_name(nodes: &[u8], at: NodeId, n: NodeRecord, s: Sought) -> bool
+    requires { ⌜ Searchable (now nodes) (at .0) ⌝ }
+    requires { ⌜ n ≡ nodeAt (now nodes) (16 * at .0) ⌝ }
+    ensures { λ r. ⌜ (r ≡ true → (ctx : Context) → EntersAt ctx s (now (nodes .entry)) (at .0) 1) ⌝ }
+{
+    let call = (n.kind == 14) | (n.kind == 15) | (n.kind == 24);
+    if !call {
+        return false;
+    }
+    if n.children == 0 {
+        return false;
+    }
+    let first = first_child(nodes, at, n);
+    !(first.kind == 4)
+}
 
 // How far behind a node its first child stands that is searched: 1, or further behind a target; 0, if the search doesn't go
 // down through the node.
@@ -31,6 +50,9 @@ fn distance(file: &[u8], h: Header, nodes: &[u8], at: NodeId, n: NodeRecord, s: 
     ensures { λ r. ⌜ ((r ≡ 0 → ⊥) → Known s → EntersAt (contextOf (read (now (file .entry)))) s (now (nodes .entry)) (at .0) r) ⌝ }
 {
     if is_link(n, s) {
+        return 1;
+    }
+    if calls_no_name(nodes, at, n, s) {
         return 1;
     }
     value_distance(file, h, nodes, at, n, s)
