@@ -48,7 +48,7 @@ pub fn nodes_by_rows(
     h: Header,
     from: usize,
     few: &[u16],
-    many: &[u16],
+    many: &[u32],
     first: &[u64],
     later: &[u64],
     stack: &mut [u16],

@@ -102,7 +102,7 @@ fn scan_nodes_by(
     fewest: &[u16],
     most: &[u16],
     few: &[u16],
-    many: &[u16],
+    many: &[u32],
     first: &[u64],
     later: &[u64],
     stack: &mut [u16],

@@ -37,7 +37,7 @@ pub const FEW: [u16; 33] = [
     1,
 ];
 
-pub const MANY: [u16; 33] = [
+pub const MANY: [u32; 33] = [
     0,
     0,
     0,

@@ -3,7 +3,7 @@ use mathlib.Core.Path.{_≡_, refl, sym, ap, _∙_}
 use mathlib.Core.Bool.{Bool, true, false, cond, not, _&&_, _||_, or-true, true≢false, false≢true}
 use mathlib.Core.Logic.{⊎-elim}
 use mathlib.Core.List.{List}
-use Prim.Native.Nat.{ℕ, zero, suc, _/_, _%_, _^_, _≤_, _<_}
+use Prim.Native.Nat.{ℕ, zero, suc, _+_, _*_, _/_, _%_, _^_, _≤_, _<_}
 use native.Mathlib.Omega.{arith}
 use native.Mathlib.Nat.{eq-or-lt-of-le}
 use lib.ListN.{getD}
@@ -108,17 +108,29 @@ fails : (a b : Bool) → (not a || b) ≡ true → b ≡ false → a ≡ false
 fails true b h e = absurd (true≢false (sym h ∙ e))
 fails false b h e = refl
 
+-- no row has more children than a number of two bytes
+row-most : (row : ℕ) → row < 33 → getD most (rowKind row) 0 ≤ 65535
+unfolding allBelow rowKind most
+row-most row l = leb-true (getD most (rowKind row) 0) 65535 (below 33 (λ row. leb (getD most (rowKind row) 0) 65535) refl row l)
+
 module _ {few many : List ℕ} (t : Ranges few many) (names : ℕ) (n : NodeRecord) (row : ℕ) (l : row < 33)
-    (h : inRow (n .kind) (n .flags) row ≡ true) (z : n .zero ≡ 0) (p : n .position ≡ 4294967295 → ⊥) (lo : getD few row 0 ≤ n .children) where
+    (h : inRow (n .kind) (n .flags) row ≡ true) (p : n .position ≡ 4294967295 → ⊥) (w : n .children + 65536 * n .zero ≤ getD many row 0)
+    (lo : getD few row 0 ≤ n .children) where
   row-facts : Row (n .kind) (n .flags) row
   row-facts = row-of (n .kind) (n .flags) row h
 
   range : Range row (getD few row 0) (getD many row 0)
   range = range-of row (getD few row 0) (getD many row 0) (t .good row l)
 
-  children-good : n .children ≤ getD many row 0 → goodChildren n ≡ true
+  hi : n .children ≤ getD many row 0
+  hi = omega arith
+
+  z : n .zero ≡ 0
+  z = omega (arith, range .greatest, row-most row l)
+
+  children-good : goodChildren n ≡ true
   unfolding goodChildren
-  children-good hi =
+  children-good =
       let lower : getD fewest (n .kind) 0 ≤ n .children = rw (row-facts .is) (omega (arith, range .least)) in
       let upper : n .children ≤ getD most (n .kind) 0 = rw (row-facts .is) (omega (arith, range .greatest)) in
       let exact : (not (eqb (n .kind) 26) || eqb (getD few row 0) (rowChildren row) && eqb (getD many row 0) (rowChildren row)) ≡ true = rw (row-facts .is) (range .exact) in
@@ -130,14 +142,14 @@ module _ {few many : List ℕ} (t : Ranges few many) (names : ℕ) (n : NodeReco
       let f : (not (isLink (n .kind)) || leb 1 (getD few row 0)) ≡ true = rw (row-facts .is) (range .linked) in
       fails (isLink (n .kind)) (leb 1 (getD few row 0)) f (lt-leb 1 (getD few row 0) (omega arith))
 
-  unnamed : 0 < n .children → n .children ≤ getD many row 0 → isNamed (n .kind) ≡ false
-  unnamed e hi =
+  unnamed : 0 < n .children → isNamed (n .kind) ≡ false
+  unnamed e =
       let f : (not (isNamed (n .kind)) || eqb (getD many row 0) 0) ≡ true = rw (row-facts .is) (range .named) in
-      fails (isNamed (n .kind)) (eqb (getD many row 0) 0) f (ne-eqb (getD many row 0) 0 (λ z. omega arith))
+      fails (isNamed (n .kind)) (eqb (getD many row 0) 0) f (ne-eqb (getD many row 0) 0 (λ z. omega (arith, hi)))
 
-  fits : n .children ≤ getD many row 0 → (not (isNamed (n .kind)) || ltb (n .label) names) ≡ true → Fits names n row
+  fits : (not (isNamed (n .kind)) || ltb (n .label) names) ≡ true → Fits names n row
   unfolding goodNodeOf goodFlags mayMark
-  fits hi named = record {
+  fits named = record {
     below = l;
     has = h;
     good =
@@ -149,17 +161,17 @@ module _ {few many : List ℕ} (t : Ranges few many) (names : ℕ) (n : NodeReco
           ne-eqb (n .position) noPosition p,
           row-facts .flagged,
           free-mark (marked (n .flags)) _ (isNamed (n .kind)) (unresolved f) (row-facts .free),
-          children-good hi,
+          children-good,
         );
     linked = unlinked;
-    named = λ e. unnamed e hi;
+    named = unnamed;
   }
 
   pub fits-name : n .children ≡ 0 → ltb (n .label) names ≡ true → Fits names n row
-  fits-name e g = fits (omega arith) (rw g (or-true (not (isNamed (n .kind)))))
+  fits-name e g = fits (rw g (or-true (not (isNamed (n .kind)))))
 
   pub fits-leaf : n .children ≡ 0 → isNamed (n .kind) ≡ false → Fits names n row
-  fits-leaf e g = fits (omega arith) (rw g)
+  fits-leaf e g = fits (rw g)
 
-  pub fits-parent : (n .children ≡ 0 → ⊥) → n .children ≤ getD many row 0 → Fits names n row
-  fits-parent e hi = fits hi (rw (unnamed (omega arith) hi))
+  pub fits-parent : (n .children ≡ 0 → ⊥) → Fits names n row
+  fits-parent e = fits (rw (unnamed (omega arith)))

@@ -1,8 +1,8 @@
 -- Children that stand where the sets of a row allow it. Assumes nothing.
 use mathlib.Core.Path.{_≡_, refl, sym, ap, ap₂, _∙_}
-use mathlib.Core.Bool.{Bool, true, false, not, _&&_, _||_, true≢false, false≢true}
+use mathlib.Core.Bool.{Bool, true, false, not, _&&_, _||_, and-true, and-false, or-true, true≢false, false≢true}
 use mathlib.Core.List.{List, [], _∷_}
-use Prim.Native.Nat.{ℕ, zero, suc, _+_, _-_, _*_, _/_, _%_, _≤_, _<_}
+use Prim.Native.Nat.{ℕ, zero, suc, _+_, _*_, _/_, _%_, _≤_, _<_}
 use native.Mathlib.Omega.{arith}
 use lib.ListN.{length, getD, take, drop, length-drop}
 use lib.Seq.{drop-cons}
@@ -113,6 +113,17 @@ pub leaf-entry : (x : NodeRecord) (es : List ℕ) → x .children ≡ 0 → isLi
 unfolding nodeEntry entry
 leaf-entry x es e l = rw l (omega arith)
 
+-- the branches of the code that makes the entry
+module _ (k : ℕ) (link o d : Bool) where
+  pub entry-loose : d ≡ true → entry k link ≡ entry k (link && (o || d))
+  entry-loose e = rw (e, or-true o, and-true link)
+
+  pub entry-optional : o ≡ true → entry k link ≡ entry k (link && (o || d))
+  entry-optional e = rw (e, and-true link)
+
+  pub entry-neither : o ≡ false → d ≡ false → entry k false ≡ entry k (link && (o || d))
+  entry-neither e f = rw (e, f, and-false link)
+
 -- the tests of the code
 module _ (first later : ℕ) where
   later-one : (i e : ℕ) → 0 < i → isIn later e ≡ true → inSets first later i e ≡ true
@@ -132,15 +143,15 @@ module _ (first later : ℕ) where
     unfolding recordsFrom everyFrom inSets entryAt
     fit k b s = (omega (arith, length-drop top stack), ap (everyFrom (inSets first later) 0) (sym (entries-part stack (suc k) top b)) ∙ ap₂ _&&_ f s)
 
-    pub fit-one : (count : ℕ) → count ≤ length stack - top → count ≡ 1 → ChildrenFit first later count (drop top stack)
+    pub fit-one : (count : ℕ) → top + count ≤ length stack → count ≡ 1 → ChildrenFit first later count (drop top stack)
     unfolding recordsFrom everyFrom
     fit-one count b e = rw e (fit 0 (omega arith) refl)
 
-    pub fit-two : (count : ℕ) → count ≤ length stack - top → count ≡ 2 → isIn later (getD stack (top + 1) 0) ≡ true → ChildrenFit first later count (drop top stack)
+    pub fit-two : (count : ℕ) → top + count ≤ length stack → count ≡ 2 → isIn later (getD stack (top + 1) 0) ≡ true → ChildrenFit first later count (drop top stack)
     unfolding recordsFrom everyFrom inSets entryAt
     fit-two count b e g = rw e (fit 1 (omega arith) (rw g))
 
-    pub fit-more : (count k : ℕ) → count ≤ length stack - top → count ≡ suc (suc k) → isIn later (getD stack (top + 1) 0) ≡ true
+    pub fit-more : (count k : ℕ) → top + count ≤ length stack → count ≡ suc (suc k) → isIn later (getD stack (top + 1) 0) ≡ true
         → every (isIn later) (recordsFrom (entryAt stack) 1 k (top + 2)) ≡ true → ChildrenFit first later count (drop top stack)
     unfolding recordsFrom everyFrom inSets entryAt
     fit-more count k b e g s =

@@ -1,7 +1,7 @@
 // The children of a node by sets of what may stand, and the entry of the node.
 ghost use mathlib.Core.Path.{_≡_};
 ghost use mathlib.Core.Bool.{true, _&&_, _||_, not};
-ghost use Prim.Native.Nat.{_+_, _≤_};
+ghost use Prim.Native.Nat.{_+_, _≤_, _<_};
 ghost use lib.ListN.{length, drop};
 ghost use lib.Dec.{eqb};
 ghost use Rattle.records.specs.Flags.{optional as isOptional};
@@ -32,9 +32,10 @@ fn all_in(stack: &[u16], top: usize, count: usize, set: u64) -> bool
 pub fn children_fit(stack: &[u16], top: usize, count: usize, first: u64, later: u64) -> bool
     requires { ⌜ top ≤ length (now stack) ⌝ }
     requires { ⌜ 1 ≤ count ⌝ }
+    requires { ⌜ count < 65536 ⌝ }
     ensures { λ r. ⌜ (r ≡ true → ChildrenFit first later count (drop top (now (stack .entry)))) ⌝ }
 {
-    if stack.len() - top < count {
+    if stack.len() < top + count {
         return false;
     }
     if !is_in(first, stack[top]) {
@@ -58,5 +59,12 @@ pub fn entry_above(n: NodeRecord, first: u16) -> u16
 {
     let optional = n.flags / 2 % 2 == 1;
     let loose = first % 2 == 1;
-    entry(n.kind, !(n.kind == 13) & (optional | loose))
+    let link = !(n.kind == 13);
+    if loose {
+        return entry(n.kind, link);
+    }
+    if optional {
+        return entry(n.kind, link);
+    }
+    entry(n.kind, false)
 }

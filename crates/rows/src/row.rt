@@ -7,6 +7,7 @@ use records::layout::NodeRecord;
 use records::limits::NO_POSITION;
 use records::number::size;
 use records::number::wide;
+use records::number::wide16;
 use records::set::is_in;
 
 // Rows 0 to 30 are the kinds, 31 is a property with two children, and 32 a shorthand property. A node that no row judges has
@@ -110,7 +111,7 @@ pub fn row_of(n: NodeRecord) -> usize
 }
 
 // A node of a row, among `names` names.
-pub fn node_fits(n: NodeRecord, row: usize, names: u16, few: &[u16], many: &[u16]) -> bool
+pub fn node_fits(n: NodeRecord, row: usize, names: u16, few: &[u16], many: &[u32]) -> bool
     requires { ⌜ Ranges (now few) (now many) ⌝ }
     requires { ⌜ (row < 33 → inRow (n .kind) (n .flags) row ≡ true) ⌝ }
     ensures { λ r. ⌜ (r ≡ true → Fits names n row) ⌝ }
@@ -118,10 +119,11 @@ pub fn node_fits(n: NodeRecord, row: usize, names: u16, few: &[u16], many: &[u16
     if 32 < row {
         return false;
     }
-    if !(n.zero == 0) {
+    if n.position == NO_POSITION {
         return false;
     }
-    if n.position == NO_POSITION {
+    // No row has more than 65535 children, so this asks too that `zero` is 0.
+    if many[row] < wide16(n.children) + 65536 * wide16(n.zero) {
         return false;
     }
     if n.children < few[row] {
@@ -134,5 +136,5 @@ pub fn node_fits(n: NodeRecord, row: usize, names: u16, few: &[u16], many: &[u16
         }
         return true;
     }
-    n.children <= many[row]
+    true
 }

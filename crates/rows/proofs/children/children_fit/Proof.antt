@@ -3,7 +3,6 @@ use mathlib.Core.Path.{sym, _∙_}
 use mathlib.Core.Bool.{false≢true}
 use Prim.Native.Nat.{_-_}
 use native.Mathlib.Omega.{arith}
-use borrow.Author.Needs.{needs}
 use borrow.Author.Tests.{not-false}
 use Rattle.rows.proofs.Standing.{fit-one, fit-two, fit-more}
 use borrow.Author.Needs.{needs}
@@ -11,11 +10,11 @@ use Rattle.rows.proofs.children.children_fit.Statement.{statement}
 use Rattle.rows.proofs.children.children_fit.Tie as tie
 use Rattle.rows.proofs.children.children_fit.Reads as reads
 use Rattle.rows.proofs.children.children_fit.Lts as lts
-use Rattle.rows.proofs.children.all_in.Reads as all-in-reads
 use Rattle.records.proofs.set.is_in.Reads as is-in-reads
+use Rattle.rows.proofs.children.all_in.Reads as all-in-reads
 
-sub-if1 : tie.Need-sub-if1
-sub-if1 c = search needs
+add-if1 : tie.Need-add-if1
+add-if1 c = search needs
 
 returns : tie.Need-returns
 returns c = λ e. absurd (false≢true e)
@@ -63,13 +62,13 @@ all-in-requires : tie.Need-all-in-requires
 all-in-requires c κs = search needs
 
 returns-6 : tie.Need-returns-6
-returns-6 c = λ e. fit-more ((c .before .before .before .before .before .before .before .before .before .before .before) .args .first) ((c .before .before .before .before .before .before .before .before .before .before .before) .args .later) ((c .before .before .before .before .before .before .before .before .before .before .before) .args .stack .now) ((c .before .before .before .before .before .before .before .before .before .before .before) .args .top) (sym ((c .before .before .before .before .before .before .before .is-in) .ensures) ∙ not-false _ ((c .before .before .before .before .before .before .if2) .left)) ((c .before .before .before .before .before .before .before .before .before .before .before) .args .count) ((c .before .before .before .before .before .before .before .before .before .before .before) .args .count - 2) ((c .before .before .before .before .before .before .before .before .before .if1) .left) (omega (arith, (c .before .before .before .before .before .before .before .before .before .before .before) .pre .1, (c .before .before .before .before .before .if3) .left, (c .before .if5) .left)) (sym ((c .before .before .before .is-in2) .ensures) ∙ not-false _ ((c .before .before .if4) .left)) ((c .all-in) .ensures e)
+returns-6 c = λ e. fit-more ((c .before .before .before .before .before .before .before .before .before .before .before) .args .first) ((c .before .before .before .before .before .before .before .before .before .before .before) .args .later) ((c .before .before .before .before .before .before .before .before .before .before .before) .args .stack .now) ((c .before .before .before .before .before .before .before .before .before .before .before) .args .top) (sym ((c .before .before .before .before .before .before .before .is-in) .ensures) ∙ not-false _ ((c .before .before .before .before .before .before .if2) .left)) ((c .before .before .before .before .before .before .before .before .before .before .before) .args .count) ((c .before .before .before .before .before .before .before .before .before .before .before) .args .count - 2) ((c .before .before .before .before .before .before .before .before .before .if1) .left) (omega (arith, (c .before .before .before .before .before .before .before .before .before .before .before) .pre .1 .0, (c .before .before .before .before .before .if3) .left, (c .before .if5) .left)) (sym ((c .before .before .before .is-in2) .ensures) ∙ not-false _ ((c .before .before .if4) .left)) ((c .all-in) .ensures e)
 
 pub children-fit-spec : {M : Type 1} → statement M
 children-fit-spec =
     tie.close
     (tie.spec
-    sub-if1
+    add-if1
     returns
     mul-is-in
     shared-slice-read-is-in
