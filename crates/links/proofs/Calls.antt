@@ -1,4 +1,4 @@
--- Calls, `new` and tags whose first child is no plain name: it is searched, whatever is to be placed. Assumes nothing.
+-- Calls, `new` and tags that keep neither their callee nor their tag: their children are searched. Assumes nothing.
 use Prim.Native.Nat.{ℕ, _+_, _*_}
 use mathlib.Core.Bool.{Bool, true, false, cond, _&&_, _||_}
 use mathlib.Core.List.{List, _++_}
@@ -6,21 +6,21 @@ use mathlib.Core.Path.{_≡_, refl, sym, ap, _∙_, subst}
 use lib.Dec.{eqb}
 use borrow.Author.Tests.{eqb-true}
 use Rattle.records.specs.Flags.{optional}
-use Rattle.records.specs.Place.{root, isExpression}
+use Rattle.records.specs.Place.{isExpression}
 use Rattle.records.specs.Record.{nodeAt}
-use Rattle.records.specs.Tree.{Tree, Trees, count, recordOf, nodeOf}
-use Rattle.records.specs.File.{firstTree}
+use Rattle.records.specs.Tree.{count, recordOf, nodeOf}
 use Rattle.records.specs.declared.layout.NodeRecord.{NodeRecord}
 use Rattle.table.specs.Table.{workBytes}
 use Rattle.table.proofs.Laid.{inside}
 use Rattle.walk.specs.Context.{Context}
-use Rattle.walk.specs.Shape.{is, isMemberExpression, Choice, never, cuts, steps, shape, cleared}
+use Rattle.walk.specs.Shape.{is, Choice, never, cuts, steps, shape, cleared}
 use Rattle.walk.specs.Looks.{ownLooks}
-use Rattle.walk.specs.Substitute.{isSpecificId, isMemberTag, keepsCallee, keepsIndirect, plan}
+use Rattle.walk.specs.Substitute.{plan}
 use Rattle.plans.specs.declared.sought.Sought.{Sought}
 use Rattle.plans.specs.declared.walked.Walked.{Walked}
 use Rattle.plans.specs.Child.{FirstChild}
 use Rattle.plans.specs.Passing.{stopsIn}
+use Rattle.plans.specs.Plans.{KeepsCallee, KeepsIndirect}
 use Rattle.plans.specs.Search.{Searchable, SearchesRow}
 use Rattle.plans.specs.Shapes.{planned}
 use Rattle.links.specs.Links.{linkPlan, linkLooks, OfChildren, Steady, EntersAt}
@@ -28,7 +28,6 @@ use Rattle.links.proofs.Leaves.{either-way}
 use Rattle.links.proofs.OfNode.{node-of}
 use Rattle.links.proofs.Searching.{node-is}
 use Rattle.links.proofs.Chain.{counted, by-choice}
-use Rattle.links.proofs.LinkKinds.{and-off, and-last}
 use Rattle.links.proofs.Reaching.{enters-by}
 
 -- what decides on the children behind the first
@@ -65,16 +64,7 @@ module _ (n : NodeRecord) (call : (eqb (n .kind) 14 || eqb (n .kind) 15 || eqb (
   unfolding nodeOf ownLooks isExpression
   looked = by-kind (λ k. n .kind ≡ k → linkLooks n ≡ ownLooks (nodeOf n)) (λ e. rw e refl) (λ e. rw e refl) (λ e. rw e refl) refl
 
-  -- neither a callee nor a tag is kept where the first child is no plain name
-  no-callee : (replacement : Tree) (kids : Trees) → is 4 (root (firstTree kids)) ≡ false → keepsCallee replacement (nodeOf n) kids ≡ false
-  unfolding keepsCallee
-  no-callee replacement kids h = and-last (is 14 (nodeOf n) || is 15 (nodeOf n)) (isMemberExpression (root replacement) || is 13 (root replacement)) (is 4 (root (firstTree kids))) h
-
-  no-tag : (name : ℕ) (replacement : Tree) (kids : Trees) → is 4 (root (firstTree kids)) ≡ false → keepsIndirect name replacement (nodeOf n) kids ≡ false
-  unfolding keepsIndirect isSpecificId
-  no-tag name replacement kids h = and-off (is 24 (nodeOf n)) (is 4 (root (firstTree kids)) && eqb (root (firstTree kids) .label) name) (isMemberTag replacement) (rw h refl)
-
-  module _ (ctx : Context) (s : Sought) {table : List ℕ} {at : ℕ} (e : n ≡ nodeAt table (16 * at)) (first : NodeRecord) (f : FirstChild table at first) (other : eqb (first .kind) 4 ≡ false) where
+  module _ (ctx : Context) (s : Sought) {table : List ℕ} {at : ℕ} (e : n ≡ nodeAt table (16 * at)) (first : NodeRecord) (f : FirstChild table at first) (callee : KeepsCallee n first s false) (tag : KeepsIndirect n first s false) where
     steady : Steady ctx s table at
     steady replacement d pre m kids rest t = ap (λ x. stopsIn ctx replacement x kids) (sym shape-is ∙ ap shape (ap nodeOf (node-is e t) ∙ node-of m (count kids)))
 
@@ -82,8 +72,8 @@ module _ (n : NodeRecord) (call : (eqb (n .kind) 14 || eqb (n .kind) 15 || eqb (
     unfolding nodeOf
     on-children some w replacement d pre m kids rest t b =
         let z : nodeOf n ≡ m = ap nodeOf (node-is e t) ∙ node-of m (count kids) in
-        let h : is 4 (root (firstTree kids)) ≡ false = ap (is 4) (f pre m kids rest t) ∙ other in
-        let p = by-choice n s some no-name kept looked ctx (s .name .0) replacement d (choice n) kids (no-callee replacement kids h) (no-tag (s .name .0) replacement kids h) in
+        let h = f pre m kids rest t in
+        let p = by-choice n s some no-name kept looked ctx (s .name .0) replacement d (choice n) kids (sym (callee replacement d kids h)) (sym (tag replacement d kids h)) in
         let g : planned (linkPlan s (shape (nodeOf n))) ≡ plan ctx (s .name .0) replacement (shape m) m kids =
         ap (λ x. planned (linkPlan s x)) shape-is ∙ p ∙ ap (λ x. plan ctx (s .name .0) replacement x (nodeOf n) kids) (sym shape-is) ∙ ap (λ x. plan ctx (s .name .0) replacement (shape x) x kids) z in
         rw (← g) (w replacement d (pre ++ workBytes (recordOf m (count kids))) kids rest (inside t) (counted n e t) b)

@@ -37,7 +37,8 @@ use Rattle.plans.specs.Search.{Searchable, SearchableRow, Did, passes, stops, r
 use Rattle.plans.proofs.Behind.{found-same}
 use Rattle.links.specs.declared.above.Before.{Before}
 use Rattle.links.specs.OfNode.{behind, gather, OfNode}
-use Rattle.links.specs.Links.{linkPlan, linkLooks, planBehind, IsLink, Goes, OfChildren, Steady, planAt, Reaches, Links, start, link, SomeAbove, IsAbove, Within, ChildSearched}
+use Rattle.links.specs.Links.{linkPlan, linkLooks, planBehind, IsLink, Goes, OfChildren, Steady, planAt, Reaches, Links, start, link}
+use Rattle.links.specs.Above.{SomeAbove, IsAbove, Within, ChildSearched}
 use Rattle.links.proofs.Row.{wrong, row-replaced, row-stopped, row-either}
 use Rattle.links.proofs.Nodes.{one-searched, others-searchable, looks-in-room}
 use Rattle.links.proofs.Searching.{searchable-room, first-searchable, bare-node, node-is}
@@ -163,7 +164,7 @@ any-effect (stops e x y z w) h q a p i = wrong isReplaced e refl h
 any-effect (replaces e f) h q a p i = replaces (a ∙ e) (found-same f p i)
 
 -- a node given the flags that it has
-same-flags : (table : List ℕ) (at : ℕ) → set table (16 * at + 1) (nodeAt table (16 * at) .flags) ≡ table
+pub same-flags : (table : List ℕ) (at : ℕ) → set table (16 * at + 1) (nodeAt table (16 * at) .flags) ≡ table
 unfolding nodeAt
 same-flags table at = set-getD table (16 * at + 1) 0
 
@@ -200,12 +201,12 @@ links-seen (start e) = omega (arith, e)
 links-seen {table = table} (link {next} r ls) = omega (arith, r .goes .seen, links-seen ls, own-most (nodeOf (nodeAt table (16 * next))))
 
 -- the last of them
-record LastLink (ctx : Context) (s : Sought) (table : List ℕ) (at end looks next before left seen extra : ℕ) (effect : Bool) : Type 0 where
-  reaches : Reaches ctx s table next end before left effect extra
-  links : Links ctx s table at next seen
-  all : looks ≡ seen + (ownLooks (nodeOf (nodeAt table (16 * next))) + extra)
+pub record LastLink (ctx : Context) (s : Sought) (table : List ℕ) (at end looks next before left seen extra : ℕ) (effect : Bool) : Type 0 where
+  pub reaches : Reaches ctx s table next end before left effect extra
+  pub links : Links ctx s table at next seen
+  pub all : looks ≡ seen + (ownLooks (nodeOf (nodeAt table (16 * next))) + extra)
 
-last-link : {ctx : Context} {s : Sought} {table : List ℕ} {at end looks : ℕ} → Links ctx s table at end looks → at < end
+pub last-link : {ctx : Context} {s : Sought} {table : List ℕ} {at end looks : ℕ} → Links ctx s table at end looks → at < end
     → (next : ℕ) × (before : ℕ) × (left : ℕ) × (seen : ℕ) × (extra : ℕ) × (effect : Bool) × LastLink ctx s table at end looks next before left seen extra effect
 last-link (start e) l = absurd (omega (arith, e, l))
 last-link (link {next} {before = before} {left} {looks = extra} {seen = seen} {effect = effect} r ls) l = (next, before, left, seen, extra, effect, record { reaches = r; links = ls; all = refl })
@@ -222,8 +223,8 @@ module _ (ctx : Context) (s : Sought) {table₀ table : List ℕ} {at end looks 
   pub within-looks : 16 * looks + 16 * w .looks ≤ length table
   within-looks = omega (arith, links-seen (g .links), looks-in-room ctx s k (g .here) (g .did), g .same)
 
-  same : (j : ℕ) → j < end → nodeAt table (16 * j) ≡ nodeAt table₀ (16 * j)
-  same = same-before ctx s k (g .here) (g .did)
+  pub within-same : (j : ℕ) → j < end → nodeAt table (16 * j) ≡ nodeAt table₀ (16 * j)
+  within-same = same-before ctx s k (g .here) (g .did)
 
   module _ (l : at < end) where
     pub within-room : 16 * end ≤ length table
@@ -233,7 +234,7 @@ module _ (ctx : Context) (s : Sought) {table₀ table : List ℕ} {at end looks 
     pub within-above : SomeAbove table end
     within-above =
         let (next, before, left, seen, extra, effect, r) = last-link (g .links) l in
-        (next, before, left, effect, extra, above-same (λ j i. sym (same j i)) (r .reaches .above))
+        (next, before, left, effect, extra, above-same (λ j i. sym (within-same j i)) (r .reaches .above))
 
     module _ (b : Before) (f : IsAbove table end b) where
       -- it is the last link
@@ -245,8 +246,8 @@ module _ (ctx : Context) (s : Sought) {table₀ table : List ℕ} {at end looks 
       last-before : (next : ℕ) × (before : ℕ) × (left : ℕ) × (seen : ℕ) × (extra : ℕ) × (effect : Bool) × Last next before left seen extra effect
       last-before =
           let (next, before, left, seen, extra, effect, r) = last-link (g .links) l in
-          let e = f next before left effect extra (above-same (λ j i. sym (same j i)) (r .reaches .above)) in
-          (next, before, left, seen, extra, effect, (r, e ∙ ap (λ n. record { link = record { 0 = next }; before = before; left = left - 1; looks = extra; own = ownLooks (nodeOf n); effect = effect }) (same next (r .reaches .above .later))))
+          let e = f next before left effect extra (above-same (λ j i. sym (within-same j i)) (r .reaches .above)) in
+          (next, before, left, seen, extra, effect, (r, e ∙ ap (λ n. record { link = record { 0 = next }; before = before; left = left - 1; looks = extra; own = ownLooks (nodeOf n); effect = effect }) (within-same next (r .reaches .above .later))))
 
       pub before-sooner : b .link .0 < end
       before-sooner = let (next, before, left, seen, extra, effect, (r, e)) = last-before in omega (arith, r .reaches .above .later, ap (λ x. x .link .0) e)

@@ -14,7 +14,8 @@ use Rattle.walk.specs.Effect.{hasEffect}
 use Rattle.walk.specs.Looks.{ownLooks}
 use Rattle.links.specs.declared.above.Before.{Before}
 use Rattle.links.specs.OfNode.{leafKind, isLeaf}
-use Rattle.links.specs.Links.{Leaves, no-leaves, one-more, Between, past-leaves, past-target, Above, SomeAbove, SomeNode}
+use Rattle.links.specs.Links.{Leaves, no-leaves, one-more, Between, past-leaves, past-target, Above}
+use Rattle.links.specs.Above.{SomeAbove, SomeNode}
 
 -- Nothing but the records before a place counts for the leaves there.
 pub leaves-same : {table table′ : List ℕ} {at end : ℕ} {effect : Bool} {looks : ℕ} → ((k : ℕ) → k < end → nodeAt table (16 * k) ≡ nodeAt table′ (16 * k)) → Leaves table at end effect looks → Leaves table′ at end effect looks

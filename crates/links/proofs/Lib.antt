@@ -17,3 +17,4 @@ pub mod Values
 pub mod Moving
 pub mod LinkKinds
 pub mod Calls
+pub mod Ending

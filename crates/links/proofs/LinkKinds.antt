@@ -23,11 +23,11 @@ use Rattle.links.proofs.ShapeCases.{shape-by}
 use Rattle.links.proofs.Chain.{link-steps, link-shaped}
 use Rattle.links.proofs.Leaves.{either-way, or-first, or-second}
 
-pub and-off : (a b c : Bool) → b ≡ false → (a && b && c) ≡ false
+and-off : (a b c : Bool) → b ≡ false → (a && b && c) ≡ false
 and-off true b c e = rw e refl
 and-off false b c e = refl
 
-pub and-last : (a b c : Bool) → c ≡ false → (a && b && c) ≡ false
+and-last : (a b c : Bool) → c ≡ false → (a && b && c) ≡ false
 and-last true true c e = e
 and-last true false c e = refl
 and-last false b c e = refl

@@ -152,8 +152,3 @@ module _ (ctx : Context) (s : Sought) {table : List ℕ} {at next left : ℕ} {a
       let z : looks + (ownLooks (nodeOf (nodeAt table (16 * next))) + 0) ≡ looks + own = omega (arith, o, ap linkLooks f, x .own) in
       let q : leftFrom (nodeAt table (16 * next)) far ≡ many = sym (c ∙ ap (λ y. leftFrom y far) f) in
       (child-here ctx s x, subst (Going ctx s table at (next + far) many n) z (subst (λ k. Going ctx s table at (next + far) k n (looks + (ownLooks (nodeOf (nodeAt table (16 * next))) + 0))) q (through f x (going-links g))))
-
--- the same, of other names for the same numbers
-pub going-as : (ctx : Context) (s : Sought) (table : List ℕ) (at : ℕ) {next next′ left left′ looks looks′ : ℕ} {above above′ : NodeRecord} → next′ ≡ next → left′ ≡ left → looks′ ≡ looks → above′ ≡ above
-    → Searchable table next × Going ctx s table at next left above looks → Searchable table next′ × Going ctx s table at next′ left′ above′ looks′
-going-as ctx s table at a b c d g = rw (a, b, c, d) g

@@ -11,13 +11,15 @@ use Rattle.records.specs.Record.{nodeAt}
 use Rattle.records.specs.Tree.{Node, Tree, Trees, node, none, more, count, size, sizes, recordOf, nodeOf}
 use Rattle.records.specs.declared.layout.NodeRecord.{NodeRecord}
 use Rattle.records.specs.Place.{isExpression}
-use Rattle.records.proofs.Tests.{both, and-left}
+use Rattle.records.proofs.Tests.{both, all-three, and-left}
 use Rattle.table.specs.Laid.{TreeAt}
 use Rattle.table.proofs.Laid.{first, inside}
 use Rattle.walk.specs.Context.{Context}
 use Rattle.walk.specs.Effect.{hasEffect, mayHaveSideEffects, anyHasSideEffects}
 use Rattle.walk.specs.Shape.{is, assignment, shape, cleared}
 use Rattle.walk.specs.Looks.{ownLooks}
+use Rattle.walk.specs.Target.{memberPartBlocksReorder}
+use Rattle.walk.specs.Unsettled.{unsettled}
 use Rattle.effects.specs.Passes.{Passes}
 use Rattle.plans.specs.declared.begin.Begun.{Begun}
 use Rattle.plans.specs.declared.plan.Plan.the-variants.{All}
@@ -27,13 +29,17 @@ use Rattle.plans.specs.declared.sought.Sought.{Sought}
 use Rattle.plans.specs.Shapes.{shaped, isAssignment, isCompound}
 use Rattle.plans.specs.Plans.{isNothing}
 use Rattle.plans.specs.Begins.{StopsAt, BeginsAt}
+use Rattle.plans.specs.Child.{FirstChild}
+use Rattle.plans.specs.Target.{DependsOnSideEffect}
 use Rattle.plans.specs.Described.{Known}
 use Rattle.plans.specs.Search.{Searchable}
 use Rattle.plans.proofs.Beginning.{begins-behind}
-use Rattle.plans.proofs.Targets.{depends-name, stops-not, stops-depends}
-use Rattle.links.specs.OfNode.{leafKind, isLeaf}
+use Rattle.plans.proofs.Children.{first-read}
+use Rattle.plans.proofs.Targets.{depends-name, depends-member, stops-not, stops-depends}
+use Rattle.links.specs.OfNode.{leafKind, isLeaf, passesName}
+use Rattle.links.specs.Members.{targetAt, objectAt, PlainMember}
 use Rattle.links.specs.Links.{linkPlan, linkLooks, planBehind, Goes, OfChildren, Steady, Leaves, no-leaves, one-more, Between, past-leaves, past-target, planAt, Reaches, leftFrom, EntersAt}
-use Rattle.links.proofs.Leaves.{either-way}
+use Rattle.links.proofs.Leaves.{either-way, leaf-marked}
 use Rattle.links.proofs.LeavesBefore.{children-no-leaf}
 use Rattle.links.proofs.OfNode.{node-of}
 use Rattle.links.proofs.PlansBehind.{all-behind}
@@ -169,35 +175,78 @@ module _ (ctx : Context) (s : Sought) (table : List ℕ) (at : ℕ) (n : NodeRec
       let far : at + 1 + 1 ≡ at + 2 = omega arith in
       enters-value ctx s table at n e kind two 2 refl (λ z. omega (arith, z)) (subst (λ j. Passes table (at + 1) 1 j false) far (leaf-passes target t bare false quiet)) (goes-past h) (past-leaves {before = 1} (omega arith) (one-leaf aim)) k here
 
+-- a member, by the code's tests
+pub plain-member : (table : List ℕ) (at : ℕ) (target : NodeRecord) → target ≡ targetAt table at → (object : NodeRecord) → object ≡ objectAt table at
+    → (eqb (target .kind) 10 || eqb (target .kind) 11) ≡ true → eqb (target .children) 1 ≡ true → (eqb (object .children) 0 && not (marked (object .flags)) && not (marked (target .flags))) ≡ true → PlainMember table at
+plain-member table at target t object o k c h =
+    let (b, q, u) = all-three _ _ _ h in
+    record {
+      member = subst (λ x. (eqb (x .kind) 10 || eqb (x .kind) 11) ≡ true) t k;
+      one = subst (λ x. x .children ≡ 1) t (eqb-true (target .children) 1 c);
+      unmarked = subst (λ x. marked (x .flags) ≡ false) t (not-true (marked (target .flags)) u);
+      bare = subst (λ x. eqb (x .children) 0 ≡ true) o b;
+      quiet = subst (λ x. marked (x .flags) ≡ false) o (not-true (marked (object .flags)) q);
+    }
+
 -- A member of a leaf, as a target.
-module _ (ctx : Context) (s : Sought) (table : List ℕ) (at : ℕ) (n : NodeRecord) (target : NodeRecord) (t : target ≡ nodeAt table (16 * (at + 1))) (member : (eqb (target .kind) 10 || eqb (target .kind) 11) ≡ true) (one : target .children ≡ 1)
-    (object : NodeRecord) (o : object ≡ nodeAt table (16 * (at + 2))) (bare : isLeaf object ≡ true) (quiet : false ≡ hasEffect (nodeOf object)) (unmarked : marked (target .flags) ≡ false) where
-  still : false ≡ hasEffect (nodeOf target)
+module _ (ctx : Context) (s : Sought) (table : List ℕ) (at : ℕ) (n : NodeRecord) (p : PlainMember table at) (bare : isLeaf (objectAt table at) ≡ true) where
+  still : false ≡ hasEffect (nodeOf (targetAt table at))
   unfolding nodeOf hasEffect
-  still = either-way (eqb (target .kind) 10) (eqb (target .kind) 11) member (λ z. rw (unmarked, eqb-true (target .kind) 10 z) refl) (λ z. rw (unmarked, eqb-true (target .kind) 11 z) refl)
+  still =
+      either-way (eqb (targetAt table at .kind) 10) (eqb (targetAt table at .kind) 11) (p .member)
+      (λ z. rw (p .unmarked, eqb-true (targetAt table at .kind) 10 z) refl)
+      (λ z. rw (p .unmarked, eqb-true (targetAt table at .kind) 11 z) refl)
 
   -- the object behind it
   object-passes : Passes table (at + 1 + 1) 1 (at + 3) false
   object-passes =
       let two : at + 2 ≡ at + 1 + 1 = omega arith in
       let three : at + 2 + 1 ≡ at + 3 = omega arith in
-      subst (λ j. Passes table j 1 (at + 3) false) two (subst (λ j. Passes table (at + 2) 1 j false) three (leaf-passes object o bare false quiet))
+      let quiet : false ≡ hasEffect (nodeOf (objectAt table at)) = sym (p .quiet) ∙ leaf-marked (objectAt table at) bare in
+      subst (λ j. Passes table j 1 (at + 3) false) two (subst (λ j. Passes table (at + 2) 1 j false) three (leaf-passes (objectAt table at) refl bare false quiet))
 
   member-passes : Passes table (at + 1) 1 (at + 3) false
   unfolding count sizes size anyHasSideEffects mayHaveSideEffects recordOf
   member-passes pre none rest h c = absurd (omega (arith, c))
   member-passes pre (more t′ (more u us)) rest h c = absurd (omega (arith, c))
   member-passes pre (more (node m kids) none) rest h c =
-      let z = node-is t (first h) in
-      let (x, y) = object-passes _ kids _ (inside (first h)) (sym (ap (λ r. r .children) z) ∙ one) in
+      let z = node-is {n = targetAt table at} refl (first h) in
+      let (x, y) = object-passes _ kids _ (inside (first h)) (sym (ap (λ r. r .children) z) ∙ p .one) in
       let a : false ≡ hasEffect m = still ∙ ap hasEffect (ap nodeOf z ∙ node-of m (count kids)) in
       (omega (arith, x), rw (← a, ← y) refl)
 
-  no-leaf : isLeaf (nodeAt table (16 * (at + 1))) ≡ false
-  no-leaf = children-no-leaf (nodeAt table (16 * (at + 1))) (λ z. omega (arith, z, one, ap (λ x. x .children) t))
+  no-leaf : isLeaf (targetAt table at) ≡ false
+  no-leaf = children-no-leaf (targetAt table at) (λ z. omega (arith, z, p .one))
 
   pub enters-member : n ≡ nodeAt table (16 * at) → n .kind ≡ 20 → n .children ≡ 2 → StopsAt ctx table (at + 1) 1 s (compound (n .flags)) false false → Known s → Searchable table at → EntersAt ctx s table at 3
   enters-member e kind two w k here =
       enters-value ctx s table at n e kind two 3 refl (λ z. omega (arith, z)) member-passes w
-      (past-target (ap (λ x. x .children) (sym e) ∙ two) no-leaf (omega (arith, one, ap (λ x. x .children) t)) (one-more (omega arith) (subst (λ x. isLeaf x ≡ true) o bare) (no-leaves refl)))
+      (past-target (ap (λ x. x .children) (sym e) ∙ two) no-leaf (omega (arith, p .one)) (one-more (omega arith) bare (no-leaves refl)))
       k here
+
+  -- a step is placed, and the object may change places with it
+  pub enters-still : memberPartBlocksReorder ctx (node (nodeOf (objectAt table at)) none) ≡ false → s .effect ≡ true → compound (n .flags) ≡ false
+      → n ≡ nodeAt table (16 * at) → n .kind ≡ 20 → n .children ≡ 2 → Known s → Searchable table at → EntersAt ctx s table at 3
+  enters-still q a c e kind two k here =
+      let two-on : at + 1 + 1 ≡ at + 2 = omega arith in
+      let object : FirstChild table (at + 1) (objectAt table at) = first-read {n = targetAt table at} refl (omega (arith, p .one)) (ap (λ j. nodeAt table (16 * j)) (sym two-on)) in
+      let kind-is : (k : ℕ) → eqb 10 k ≡ false → eqb 11 k ≡ false → eqb (targetAt table at .kind) k ≡ false =
+      λ k x y. either-way (eqb (targetAt table at .kind) 10) (eqb (targetAt table at .kind) 11) (p .member) (λ z. ap (λ i. eqb i k) (eqb-true (targetAt table at .kind) 10 z) ∙ x) (λ z. ap (λ i. eqb i k) (eqb-true (targetAt table at .kind) 11 z) ∙ y) in
+      let d : DependsOnSideEffect ctx table (at + 1) false = depends-member ctx {n = targetAt table at} refl (kind-is 29 refl refl) (kind-is 12 refl refl) (either-order (eqb (targetAt table at .kind) 10) (eqb (targetAt table at .kind) 11) (p .member)) (objectAt table at) object (sym q) in
+      enters-member e kind two (stops-depends ctx (compound (n .flags)) refl a c (omega arith) d) k here
+    where
+      either-order : (a b : Bool) → (a || b) ≡ true → (b || a) ≡ true
+      either-order true true h = refl
+      either-order true false h = refl
+      either-order false true h = refl
+      either-order false false h = h
+
+-- a settled name, as an object
+pub name-still : (ctx : Context) (object : NodeRecord) → passesName ctx object ≡ true → memberPartBlocksReorder ctx (node (nodeOf object) none) ≡ false
+unfolding memberPartBlocksReorder nodeOf
+name-still ctx object h =
+    let (k, u) = both (eqb (object .kind) 4) (not (unsettled ctx (object .label))) h in
+    rw k (not-true (unsettled ctx (object .label)) u)
+
+pub name-leaf : (object : NodeRecord) → eqb (object .children) 0 ≡ true → object .kind ≡ 4 → isLeaf object ≡ true
+name-leaf object b k = rw (b, k) refl

@@ -173,39 +173,3 @@ pub data Going (ctx : Context) (s : Sought) (table : List ℕ) (at next left : �
   begun : next ≡ at → left ≡ 1 → Going ctx s table at next left link 0
   through : {above before looks seen : ℕ} {effect : Bool} → link ≡ nodeAt table (16 * above) → Reaches ctx s table above next before left effect looks → Links ctx s table at above seen
       → Going ctx s table at next left link (seen + (ownLooks (nodeOf (nodeAt table (16 * above))) + looks))
-
--- a node before number `end` that is no leaf
-abbrev pub SomeNode : List ℕ → ℕ → Type 0
-SomeNode table end = (k : ℕ) × (k < end) × (isLeaf (nodeAt table (16 * k)) ≡ false)
-
--- some node is above the one at `child`
-abbrev pub SomeAbove : List ℕ → ℕ → Type 0
-SomeAbove table child = (at : ℕ) × (before : ℕ) × (left : ℕ) × (effect : Bool) × (looks : ℕ) × Above table at child before left effect looks
-
--- it is this one
-abbrev pub IsAbove : List ℕ → ℕ → Before → Type 0
-IsAbove table child b =
-    (at before left : ℕ) (effect : Bool) (looks : ℕ) → Above table at child before left effect looks
-    → b ≡ record { link = record { 0 = at }; before = before; left = left - 1; looks = looks; own = ownLooks (nodeOf (nodeAt table (16 * at))); effect = effect }
-
--- The tree behind the links was searched, and so were the trees of those links that stand from `end` on; `looks` are those
--- on the way to it.
-pub record Within (ctx : Context) (s : Sought) (table₀ table : List ℕ) (at end looks : ℕ) (w : Walked) : Type 0 where
-  pub links : Links ctx s table₀ at end looks
-  pub here : Searchable table₀ end
-  pub did : Searches ctx s table₀ table end w
-  pub same : length table ≡ length table₀
-
--- The child of a link was searched, and the name was not found.
-pub record ChildSearched (ctx : Context) (s : Sought) (table₀ table : List ℕ) (b : Before) (child : ℕ) (w : Walked) : Type 0 where
-  pub reaches : Reaches ctx s table₀ (b .link .0) child (b .before) (b .left + 1) (b .effect) (b .looks)
-  pub did : Searches ctx s table₀ table child w
-  pub not-found : isReplaced (w .answer) ≡ false
-  pub same : length table ≡ length table₀
-
-abbrev pub SomeChildSearched : Context → Sought → List ℕ → Before → ℕ → Walked → Type 0
-SomeChildSearched ctx s table b child w = (table₀ : List ℕ) × ChildSearched ctx s table₀ table b child w
-
--- then the link itself is
-abbrev pub SearchesBehind : Context → Sought → List ℕ → List ℕ → Before → ℕ → Walked → Walked → Type 0
-SearchesBehind ctx s table table′ b child w r = (table₀ : List ℕ) → ChildSearched ctx s table₀ table b child w → Searches ctx s table₀ table′ (b .link .0) r

@@ -1,11 +1,15 @@
-// The way back: from a child to the node above it.
+// The way back: from a child to the node above it, and further where the search ended in the child.
 ghost use Prim.Native.Nat.{_*_, _≤_};
 ghost use lib.ListN.{length};
-ghost use Rattle.links.specs.Links.{SomeAbove, IsAbove};
+ghost use Rattle.links.specs.Above.{SomeAbove, IsAbove, Carries, CarriesEnded};
+use crate::descent::Descent;
 use crate::leaf::is_leaf;
 use crate::leaf::leaf_effect;
 use crate::leaf::leaf_looks;
 use crate::node::own_looks;
+use plans::walked::Walked;
+use plans::walked::is_passed;
+use plans::walked::is_replaced;
 use records::layout::NodeId;
 use records::number::size;
 use table::work_node;
@@ -59,4 +63,47 @@ pub fn node_above(nodes: &[u8], child: NodeId) -> Before
         own: own_looks(n),
         effect,
     }
+}
+
+// Back from a child through nodes that have no other one, no further than `at`: the last of them, and the looks at them. If the
+// search ended in the child, it ended in them.
+fn above_only_child(nodes: &[u8], at: NodeId, child: NodeId) -> Descent
+    requires { ⌜ 16 * child .0 ≤ length (now nodes) ⌝ }
+    ensures { λ r. ⌜ CarriesEnded (now (nodes .entry)) (at .0) (child .0) (r .node .0) (r .looks) ⌝ }
+{
+    let mut next = child.0;
+    let mut looks: usize = 0;
+    while at.0 < next {
+        let n = work_node(nodes, NodeId(next - 1));
+        if !(n.children == 1) {
+            break;
+        }
+        looks += own_looks(n);
+        next -= 1;
+    }
+    Descent {
+        node: NodeId(next),
+        looks,
+    }
+}
+
+// The same by what the search of the child did: no way, if it goes on behind the child or the name was found.
+pub fn above_ended(nodes: &[u8], at: NodeId, child: NodeId, w: Walked) -> Descent
+    requires { ⌜ 16 * child .0 ≤ length (now nodes) ⌝ }
+    ensures { λ r. ⌜ Carries (now (nodes .entry)) (at .0) (child .0) (r .node .0) (r .looks) w ⌝ }
+{
+    let answer = w.answer;
+    if is_replaced(answer) {
+        return Descent {
+            node: child,
+            looks: 0,
+        };
+    }
+    if is_passed(answer) {
+        return Descent {
+            node: child,
+            looks: 0,
+        };
+    }
+    above_only_child(nodes, at, child)
 }

@@ -16,6 +16,8 @@ use crate::link::is_link;
 use crate::link::link_looks;
 use crate::value::value_distance;
 use plans::child::first_child;
+use plans::plan::keeps_callee;
+use plans::plan::keeps_indirect;
 use plans::sought::Sought;
 use records::layout::Header;
 use records::layout::NodeId;
@@ -23,8 +25,8 @@ use records::layout::NodeRecord;
 use records::number::size;
 use table::work_node;
 
-// A call, a `new` or a tagged template whose first child is no plain name: it is searched, whatever is to be placed.
-fn calls_no_name(nodes: &[u8], at: NodeId, n: NodeRecord, s: Sought) -> bool
+// A call, a `new` or a tagged template that keeps neither its callee nor its tag: its children are searched.
+fn keeps_neither(nodes: &[u8], at: NodeId, n: NodeRecord, s: Sought) -> bool
     requires { ⌜ Searchable (now nodes) (at .0) ⌝ }
     requires { ⌜ n ≡ nodeAt (now nodes) (16 * at .0) ⌝ }
     ensures { λ r. ⌜ (r ≡ true → (ctx : Context) → EntersAt ctx s (now (nodes .entry)) (at .0) 1) ⌝ }
@@ -37,7 +39,7 @@ fn calls_no_name(nodes: &[u8], at: NodeId, n: NodeRecord, s: Sought) -> bool
         return false;
     }
     let first = first_child(nodes, at, n);
-    !(first.kind == 4)
+    !keeps_callee(n, first, s) & !keeps_indirect(n, first, s)
 }
 
 // How far behind a node its first child stands that is searched: 1, or further behind a target; 0, if the search doesn't go
@@ -52,7 +54,7 @@ fn distance(file: &[u8], h: Header, nodes: &[u8], at: NodeId, n: NodeRecord, s: 
     if is_link(n, s) {
         return 1;
     }
-    if calls_no_name(nodes, at, n, s) {
+    if keeps_neither(nodes, at, n, s) {
         return 1;
     }
     value_distance(file, h, nodes, at, n, s)
@@ -102,16 +104,17 @@ pub fn behind_links(file: &[u8], h: Header, nodes: &[u8], at: NodeId, s: Sought)
             looks += leaf_looks(n);
             next += 1;
             left -= 1;
-        } else {
-            let step = distance(file, h, nodes, NodeId(next), n, s);
-            if step == 0 {
-                break;
-            }
-            looks += link_looks(n);
-            next += step;
-            left = left_from(n, step);
-            link = n;
+            n = work_node(nodes, NodeId(next));
+            continue;
         }
+        let step = distance(file, h, nodes, NodeId(next), n, s);
+        if step == 0 {
+            break;
+        }
+        looks += link_looks(n);
+        next += step;
+        left = left_from(n, step);
+        link = n;
         n = work_node(nodes, NodeId(next));
     }
     Descent {

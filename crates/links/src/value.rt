@@ -9,27 +9,25 @@ ghost use Rattle.walk.specs.Context.{contextOf};
 ghost use Rattle.plans.specs.Described.{Known};
 ghost use Rattle.plans.specs.Search.{Searchable};
 ghost use Rattle.links.specs.Links.{EntersAt};
+ghost use Rattle.links.specs.Members.{PlainMember, PassedObject};
 use crate::leaf::is_leaf;
 use crate::leaf::leaf_effect;
+use crate::leaf::passes_name;
 use plans::sought::Sought;
-use plans::target::may_depend_on_side_effect;
 use records::layout::Header;
 use records::layout::NodeId;
 use records::layout::NodeRecord;
+use reorder::member_part::member_part_blocks_reorder;
 use table::work_node;
 
-// An assignment whose target is a member of a leaf and doesn't end the search.
-fn passes_member(file: &[u8], h: Header, nodes: &[u8], at: NodeId, n: NodeRecord, s: Sought) -> bool
-    requires { ⌜ h ≡ headerOf (now file) ⌝ }
-    requires { ⌜ length (now file) ≡ fileLength h ⌝ }
+// An assignment to a member, without a mark, of a node that has neither a mark nor children.
+fn is_to_plain_member(nodes: &[u8], at: NodeId, n: NodeRecord) -> bool
     requires { ⌜ Searchable (now nodes) (at .0) ⌝ }
     requires { ⌜ n ≡ nodeAt (now nodes) (16 * at .0) ⌝ }
-    requires { ⌜ n .kind ≡ 20 ⌝ }
     requires { ⌜ n .children ≡ 2 ⌝ }
-    ensures { λ r. ⌜ (r ≡ true → Known s → EntersAt (contextOf (read (now (file .entry)))) s (now (nodes .entry)) (at .0) 3) ⌝ }
+    ensures { λ r. ⌜ (r ≡ true → PlainMember (now (nodes .entry)) (at .0)) ⌝ }
 {
-    let first = NodeId(at.0 + 1);
-    let target = work_node(nodes, first);
+    let target = work_node(nodes, NodeId(at.0 + 1));
     if !((target.kind == 10) | (target.kind == 11)) {
         return false;
     }
@@ -37,17 +35,58 @@ fn passes_member(file: &[u8], h: Header, nodes: &[u8], at: NodeId, n: NodeRecord
         return false;
     }
     let object = work_node(nodes, NodeId(at.0 + 2));
-    let quiet = is_leaf(object) & !leaf_effect(object) & !(target.flags / 1 % 2 == 1);
-    if !quiet {
-        return false;
+    (object.children == 0) & !(object.flags / 1 % 2 == 1) & !(target.flags / 1 % 2 == 1)
+}
+
+// A leaf that is no plain name, as an object: it may change places with a step that is placed in the value.
+fn passes_object(file: &[u8], h: Header, object: NodeRecord) -> bool
+    requires { ⌜ h ≡ headerOf (now file) ⌝ }
+    requires { ⌜ length (now file) ≡ fileLength h ⌝ }
+    ensures { λ r. ⌜ (r ≡ true → PassedObject (contextOf (read (now (file .entry)))) object) ⌝ }
+{
+    is_leaf(object) & !member_part_blocks_reorder(file, h, object)
+}
+
+// How far behind an assignment to a member its value stands, where that is searched: 3, behind a member of a leaf; else 0.
+fn value_behind_member(
+    file: &[u8],
+    h: Header,
+    nodes: &[u8],
+    at: NodeId,
+    n: NodeRecord,
+    s: Sought,
+) -> usize
+    requires { ⌜ h ≡ headerOf (now file) ⌝ }
+    requires { ⌜ length (now file) ≡ fileLength h ⌝ }
+    requires { ⌜ Searchable (now nodes) (at .0) ⌝ }
+    requires { ⌜ n ≡ nodeAt (now nodes) (16 * at .0) ⌝ }
+    requires { ⌜ n .kind ≡ 20 ⌝ }
+    requires { ⌜ n .children ≡ 2 ⌝ }
+    ensures { λ r. ⌜ ((r ≡ 0 → ⊥) → Known s → EntersAt (contextOf (read (now (file .entry)))) s (now (nodes .entry)) (at .0) r) ⌝ }
+{
+    if !is_to_plain_member(nodes, at, n) {
+        return 0;
     }
-    if s.effect {
-        if n.flags / 8 % 2 == 1 {
-            return false;
+    let object = work_node(nodes, NodeId(at.0 + 2));
+    if !s.effect {
+        if is_leaf(object) {
+            return 3;
         }
-        return !may_depend_on_side_effect(file, h, nodes, first, target);
+        return 0;
     }
-    true
+    if n.flags / 8 % 2 == 1 {
+        return 0;
+    }
+    if object.kind == 4 {
+        if passes_name(file, h, object) {
+            return 3;
+        }
+        return 0;
+    }
+    if passes_object(file, h, object) {
+        return 3;
+    }
+    0
 }
 
 // How far behind an assignment its value stands, where that is searched: 2 behind a bare target, 3 behind a member; else 0.
@@ -78,8 +117,5 @@ pub fn value_distance(
     if bare & (!s.effect | name & !compound) {
         return 2;
     }
-    if passes_member(file, h, nodes, at, n, s) {
-        return 3;
-    }
-    0
+    value_behind_member(file, h, nodes, at, n, s)
 }

@@ -18,7 +18,7 @@ pub enum Plan {
 }
 
 // A call or a `new` of a plain name, and a member or a chain to place.
-fn keeps_callee(n: NodeRecord, first: NodeRecord, s: Sought) -> bool
+pub fn keeps_callee(n: NodeRecord, first: NodeRecord, s: Sought) -> bool
     ensures { λ r. ⌜ KeepsCallee n first s r ⌝ }
 {
     ((n.kind == 14) | (n.kind == 15)) & s.member_or_chain & (first.kind == 4)

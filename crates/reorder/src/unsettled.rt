@@ -1,6 +1,8 @@
 // Names whose value may change while a read of them waits.
+ghost use mathlib.Core.Bool.{true, false, _||_};
 ghost use mathlib.Core.Path.{_≡_};
 ghost use lib.ListN.{length};
+ghost use Rattle.records.specs.Flags.{unresolved as unresolvedBit};
 ghost use Rattle.records.specs.Record.{headerOf};
 ghost use Rattle.records.specs.File.{fileLength, scopesOf, read};
 ghost use Rattle.walk.specs.Context.{contextOf, factsOf};
@@ -68,8 +70,10 @@ pub fn is_closed_over_block_scoped_read(file: &[u8], h: Header, n: NameFacts) ->
     ensures { λ r. ⌜ r ≡ isClosedOverBlockScopedRead (contextOf (read (now (file .entry)))) n ⌝ }
 {
     let block_scoped = n.flags / 1 % 2 == 1;
-    block_scoped
-        & read_crosses_function_boundary(file, h, ScopeId(h.current_scope), ScopeId(n.scope))
+    if block_scoped {
+        return read_crosses_function_boundary(file, h, ScopeId(h.current_scope), ScopeId(n.scope));
+    }
+    false
 }
 
 // Written: by the counts of its record, else by bit 6.
@@ -110,6 +114,20 @@ pub fn facts_of(file: &[u8], h: Header, name: NameId) -> NameFacts
     }
 }
 
+// A settled name by its own facts: resolved, no import, neither written nor mutated, not block scoped, and not of scope 0 in a
+// script. Most names are settled so.
+fn is_settled_by_facts(file: &[u8], h: Header, n: NameFacts) -> bool
+    requires { ⌜ h ≡ headerOf (now file) ⌝ }
+    ensures { λ r. ⌜ (r ≡ true → (unresolvedBit (n .flags) || symbolValueMayChange (contextOf (read (now (file .entry)))) n || isClosedOverBlockScopedRead (contextOf (read (now (file .entry)))) n) ≡ false) ⌝ }
+{
+    let block_scoped = n.flags / 1 % 2 == 1;
+    let import = n.flags / 2 % 2 == 1;
+    let mutated = n.flags / 64 % 2 == 1;
+    let unresolved = n.flags / 128 % 2 == 1;
+    let script = h.options / 1 % 2 == 1;
+    !(block_scoped | import | mutated | unresolved) & (n.writes == 0) & !(script & (n.scope == 0))
+}
+
 // Whether a read of a name may not change places with another step.
 pub fn identifier_read_blocks_reorder(file: &[u8], h: Header, name: NameId) -> bool
     requires { ⌜ h ≡ headerOf (now file) ⌝ }
@@ -117,6 +135,12 @@ pub fn identifier_read_blocks_reorder(file: &[u8], h: Header, name: NameId) -> b
     ensures { λ r. ⌜ r ≡ unsettled (contextOf (read (now (file .entry)))) (name .0) ⌝ }
 {
     let n = facts_of(file, h, name);
+    if is_settled_by_facts(file, h, n) {
+        return false;
+    }
     let unresolved = n.flags / 128 % 2 == 1;
-    unresolved | symbol_value_may_change(file, h, n) | is_closed_over_block_scoped_read(file, h, n)
+    if unresolved | symbol_value_may_change(file, h, n) {
+        return true;
+    }
+    is_closed_over_block_scoped_read(file, h, n)
 }

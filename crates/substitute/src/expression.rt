@@ -9,10 +9,11 @@ ghost use Rattle.walk.specs.Context.{contextOf};
 ghost use Rattle.plans.specs.Described.{Known};
 ghost use Rattle.plans.specs.Plans.{isNothing};
 ghost use Rattle.plans.specs.Search.{Searchable, SearchableRow, Searches, SearchesRow};
-ghost use Rattle.links.specs.Links.{SomeChildSearched, SearchesBehind};
+ghost use Rattle.links.specs.Above.{SomeChildSearched, SearchesBehind};
 use effects::has_effect;
 use effects::pass_row;
 use links::above::Before;
+use links::above::above_ended;
 use links::above::node_above;
 use links::descent::behind_links;
 use links::leaf::is_leaf;
@@ -69,9 +70,12 @@ pub fn substitute_single_use_symbol_in_expression(
 {
     let d = behind_links(file, h, nodes, at, s);
     let inner = d.node;
-    let mut w = walk_node(file, h, nodes, inner, s);
-    let mut i = inner.0;
-    let mut looks = d.looks;
+    let below = walk_node(file, h, nodes, inner, s);
+    let up = above_ended(nodes, at, inner, below);
+    let top = up.node;
+    let mut w = gathered(false, up.looks, below);
+    let mut i = top.0;
+    let mut looks = d.looks - up.looks;
     let answer = w.answer;
     let mut replaced = is_replaced(answer);
     while !replaced & (at.0 < i) {

@@ -7,7 +7,8 @@ use Rattle.walk.specs.Looks.{ownLooks}
 use lib.ListN.{length}
 use Rattle.records.specs.Record.{nodeAt}
 use Rattle.links.specs.OfNode.{isLeaf}
-use Rattle.links.specs.Links.{Leaves, SomeNode}
+use Rattle.links.specs.Links.{Leaves}
+use Rattle.links.specs.Above.{SomeNode}
 use Rattle.links.proofs.LeavesBefore.{leaves-back, node-sooner, leaves-start, leaves-all, above-node, is-target, is-above, same-answer}
 use Rattle.links.proofs.above.node_above.Statement.{statement}
 use Rattle.links.proofs.above.node_above.Tie as tie

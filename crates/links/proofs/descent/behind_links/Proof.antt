@@ -1,7 +1,6 @@
 use native.Mathlib.Omega.{arith}
 use Prim.Native.Nat.{ℕ, _+_, _-_, _*_, _<_}
 use mathlib.Core.Bool.{true, false}
-use mathlib.Core.Logic.{⊎-elim}
 use mathlib.Core.Path.{_≡_, refl, sym, ap, _∙_}
 use borrow.Author.Tests.{not-false}
 use lib.ListN.{length}
@@ -11,7 +10,7 @@ use Rattle.walk.specs.Context.{contextOf}
 use Rattle.plans.specs.Search.{Searchable}
 use Rattle.links.specs.Links.{leftFrom, Going, begun}
 use Rattle.links.proofs.Searching.{searchable-room}
-use Rattle.links.proofs.Reaching.{going-links, going-seen, going-on, going-down, going-as}
+use Rattle.links.proofs.Reaching.{going-links, going-seen, going-on, going-down}
 use Rattle.links.proofs.descent.behind_links.Statement.{statement}
 use Rattle.links.proofs.descent.behind_links.Tie as tie
 use Rattle.links.proofs.descent.behind_links.Reads as reads
@@ -54,6 +53,23 @@ add-next c = omega (arith, searchable-room ((c .before .before .before .before .
 sub-left : tie.Need-sub-left Inv-loop μ-loop
 sub-left c = omega (arith, (c .before .before .before .before .before .if2) .left)
 
+work-node-requires-2 : tie.Need-work-node-requires-2 Inv-loop μ-loop
+work-node-requires-2 c κs =
+    let ctx = contextOf (read ((c .before .before .before .before .before .before .before .before .before .before .before .before) .args .file .now)) in
+    let s = (c .before .before .before .before .before .before .before .before .before .before .before .before) .args .s in
+    let p = (c .before .before .passes-leaf) .ensures (not-false ((c .before .before .passes-leaf) .result) ((c .before .if4) .left)) in
+    searchable-room ((going-on ctx s ((c .before .before .before .before .before .before .before .before .before .before .before .before) .pre .1 .1 .1) ((c .before .before .before .before .before .before .before .before .loop) .inv .1 .1) ((c .before .before .before .before .before .before .before .before .loop) .n) ((c .before .before .before .before .before .before .before .before .loop) .inv .0) ((c .before .before .before .before .before .if2) .left) ((c .before .before .before .before .enters-all) .ensures (not-false ((c .before .before .before .before .enters-all) .result) ((c .before .before .before .if3) .left))) p ((c .leaf-looks) .result) ((c .leaf-looks) .ensures .0 (p .bare))) .0)
+
+loop-less : tie.Need-loop-less Inv-loop μ-loop
+loop-less c = omega (arith, searchable-room ((c .before .before .before .before .before .before .before .before .before .loop) .inv .1 .0))
+
+loop-again : tie.Need-loop-again Inv-loop μ-loop
+loop-again c =
+    let ctx = contextOf (read ((c .before .before .before .before .before .before .before .before .before .before .before .before .before) .args .file .now)) in
+    let s = (c .before .before .before .before .before .before .before .before .before .before .before .before .before) .args .s in
+    let p = (c .before .before .before .passes-leaf) .ensures (not-false ((c .before .before .before .passes-leaf) .result) ((c .before .before .if4) .left)) in
+    ((c .work-node2) .ensures, going-on ctx s ((c .before .before .before .before .before .before .before .before .before .before .before .before .before) .pre .1 .1 .1) ((c .before .before .before .before .before .before .before .before .before .loop) .inv .1 .1) ((c .before .before .before .before .before .before .before .before .before .loop) .n) ((c .before .before .before .before .before .before .before .before .before .loop) .inv .0) ((c .before .before .before .before .before .before .if2) .left) ((c .before .before .before .before .before .enters-all) .ensures (not-false ((c .before .before .before .before .before .enters-all) .result) ((c .before .before .before .before .if3) .left))) p ((c .before .leaf-looks) .result) ((c .before .leaf-looks) .ensures .0 (p .bare)))
+
 distance-requires : tie.Need-distance-requires Inv-loop μ-loop
 distance-requires c κs = ((c .before .before .before .before .before .before) .pre .0, ((c .before .before .before .before .before .before) .pre .1 .0, ((c .before .before .loop) .inv .1 .0, (c .before .before .loop) .inv .0)))
 
@@ -69,14 +85,20 @@ add-next-2 c = let x = (c .before .before .distance) .ensures ((c .before .if5) 
 left-from-requires : tie.Need-left-from-requires Inv-loop μ-loop
 left-from-requires c κs = tt
 
-work-node-requires-2 : tie.Need-work-node-requires-2 Inv-loop μ-loop
-work-node-requires-2 c κs = let ctx = contextOf (read ((c .before .before .before .before .before .before) .args .file .now)) in let s = (c .before .before .before .before .before .before) .args .s in let t = (c .before .before .before .before .before .before) .args .nodes .now in let g = ⊎-elim (λ x. going-as ctx s t ((c .before .before .before .before .before .before) .args .at .0) (x .7) (x .8) (x .9) (x .10) (going-on ctx s ((c .before .before .before .before .before .before) .pre .1 .1 .1) ((c .before .before .loop) .inv .1 .1) ((c .before .before .loop) .n) ((c .before .before .loop) .inv .0) (x .1 .left) (x .2 .ensures (not-false (x .2 .result) (x .3 .left))) (x .4 .ensures (not-false (x .4 .result) (x .5 .left))) (x .6 .result) (x .6 .ensures .0 ((x .4 .ensures (not-false (x .4 .result) (x .5 .left))) .bare)))) (λ y. going-as ctx s t ((c .before .before .before .before .before .before) .args .at .0) (y .5) (y .6) (y .7) (y .8) (going-down ctx s ((c .before .before .loop) .inv .1 .1) ((c .before .before .loop) .n) ((c .before .before .loop) .inv .0) (y .1 .result) (y .1 .ensures (y .2 .left) ((c .before .before .before .before .before .before) .pre .1 .1 .1)) (y .3 .result) (y .3 .ensures .0) (y .4 .result) (y .4 .ensures))) ((c .if1) .came) in searchable-room (g .0)
+work-node-requires-3 : tie.Need-work-node-requires-3 Inv-loop μ-loop
+work-node-requires-3 c κs =
+    let ctx = contextOf (read ((c .before .before .before .before .before .before .before .before .before .before) .args .file .now)) in
+    let s = (c .before .before .before .before .before .before .before .before .before .before) .args .s in
+    searchable-room ((going-down ctx s ((c .before .before .before .before .before .before .loop) .inv .1 .1) ((c .before .before .before .before .before .before .loop) .n) ((c .before .before .before .before .before .before .loop) .inv .0) ((c .before .before .before .distance) .result) ((c .before .before .before .distance) .ensures ((c .before .before .if5) .left) ((c .before .before .before .before .before .before .before .before .before .before) .pre .1 .1 .1)) ((c .before .link-looks) .result) ((c .before .link-looks) .ensures .0) ((c .left-from) .result) ((c .left-from) .ensures)) .0)
 
-loop-less : tie.Need-loop-less Inv-loop μ-loop
-loop-less c = let far : (c .before .before .before .loop) .next < (c .before .if1) .next = ⊎-elim (λ x. omega (arith, x .7)) (λ y. omega (arith, y .5, y .2 .left)) ((c .before .if1) .came) in omega (arith, far, searchable-room ((c .before .before .before .loop) .inv .1 .0))
+loop-less-2 : tie.Need-loop-less-2 Inv-loop μ-loop
+loop-less-2 c = omega (arith, searchable-room ((c .before .before .before .before .before .before .before .loop) .inv .1 .0), (c .before .before .before .if5) .left)
 
-loop-again : tie.Need-loop-again Inv-loop μ-loop
-loop-again c = let ctx = contextOf (read ((c .before .before .before .before .before .before .before) .args .file .now)) in let s = (c .before .before .before .before .before .before .before) .args .s in let t = (c .before .before .before .before .before .before .before) .args .nodes .now in ((c .work-node2) .ensures, ⊎-elim (λ x. going-as ctx s t ((c .before .before .before .before .before .before .before) .args .at .0) (x .7) (x .8) (x .9) (x .10) (going-on ctx s ((c .before .before .before .before .before .before .before) .pre .1 .1 .1) ((c .before .before .before .loop) .inv .1 .1) ((c .before .before .before .loop) .n) ((c .before .before .before .loop) .inv .0) (x .1 .left) (x .2 .ensures (not-false (x .2 .result) (x .3 .left))) (x .4 .ensures (not-false (x .4 .result) (x .5 .left))) (x .6 .result) (x .6 .ensures .0 ((x .4 .ensures (not-false (x .4 .result) (x .5 .left))) .bare)))) (λ y. going-as ctx s t ((c .before .before .before .before .before .before .before) .args .at .0) (y .5) (y .6) (y .7) (y .8) (going-down ctx s ((c .before .before .before .loop) .inv .1 .1) ((c .before .before .before .loop) .n) ((c .before .before .before .loop) .inv .0) (y .1 .result) (y .1 .ensures (y .2 .left) ((c .before .before .before .before .before .before .before) .pre .1 .1 .1)) (y .3 .result) (y .3 .ensures .0) (y .4 .result) (y .4 .ensures))) ((c .before .if1) .came))
+loop-again-2 : tie.Need-loop-again-2 Inv-loop μ-loop
+loop-again-2 c =
+    let ctx = contextOf (read ((c .before .before .before .before .before .before .before .before .before .before .before) .args .file .now)) in
+    let s = (c .before .before .before .before .before .before .before .before .before .before .before) .args .s in
+    ((c .work-node3) .ensures, going-down ctx s ((c .before .before .before .before .before .before .before .loop) .inv .1 .1) ((c .before .before .before .before .before .before .before .loop) .n) ((c .before .before .before .before .before .before .before .loop) .inv .0) ((c .before .before .before .before .distance) .result) ((c .before .before .before .before .distance) .ensures ((c .before .before .before .if5) .left) ((c .before .before .before .before .before .before .before .before .before .before .before) .pre .1 .1 .1)) ((c .before .before .link-looks) .result) ((c .before .before .link-looks) .ensures .0) ((c .before .left-from) .result) ((c .before .left-from) .ensures))
 
 returns : tie.Need-returns Inv-loop μ-loop
 returns c = record { links = going-links (contextOf (read ((c .before .before .before .before .before .before .before) .args .file .now))) ((c .before .before .before .before .before .before .before) .args .s) ((c .before .before .before .loop) .inv .1 .1); here = (c .before .before .before .loop) .inv .1 .0 }
@@ -104,14 +126,17 @@ behind-links-spec =
     add-looks
     add-next
     sub-left
+    work-node-requires-2
+    loop-less
+    loop-again
     distance-requires
     link-looks-requires
     add-looks-2
     add-next-2
     left-from-requires
-    work-node-requires-2
-    loop-less
-    loop-again
+    work-node-requires-3
+    loop-less-2
+    loop-again-2
     returns
     returns-2
     returns-3

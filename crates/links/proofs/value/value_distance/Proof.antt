@@ -14,9 +14,9 @@ use Rattle.links.proofs.value.value_distance.Statement.{statement}
 use Rattle.links.proofs.value.value_distance.Tie as tie
 use Rattle.links.proofs.value.value_distance.Reads as reads
 use Rattle.links.proofs.value.value_distance.Lts as lts
-use Rattle.links.proofs.value.passes_member.Reads as passes-member-reads
 use Rattle.links.proofs.leaf.is_leaf.Reads as is-leaf-reads
 use Rattle.links.proofs.leaf.leaf_effect.Reads as leaf-effect-reads
+use Rattle.links.proofs.value.value_behind_member.Reads as value-behind-member-reads
 use Rattle.table.proofs.work_node.Reads as work-node-reads
 
 returns : tie.Need-returns
@@ -40,14 +40,11 @@ leaf-effect-requires c κs = search needs
 returns-3 : tie.Need-returns-3
 returns-3 c = let a = (c .before .before .before .before .before .before .before .before .before .before .before .before .before .before .before) .args in λ _ known. let (p, q) = both ((c .before .before .before .before .before .is-leaf) .result && not ((c .before .before .before .before .leaf-effect) .result) && (eqb ((c .before .before .before .before .before .before .before .work-node) .result .kind) 29 || eqb ((c .before .before .before .before .before .before .before .work-node) .result .kind) 30)) (not (a .s .effect) || eqb ((c .before .before .before .before .before .before .before .work-node) .result .kind) 29 && not (compound (a .n .flags))) ((c .if3) .taken) in let (r, aim) = both ((c .before .before .before .before .before .is-leaf) .result && not ((c .before .before .before .before .leaf-effect) .result)) (eqb ((c .before .before .before .before .before .before .before .work-node) .result .kind) 29 || eqb ((c .before .before .before .before .before .before .before .work-node) .result .kind) 30) p in let (l, quiet) = both ((c .before .before .before .before .before .is-leaf) .result) (not ((c .before .before .before .before .leaf-effect) .result)) r in let bare = sym ((c .before .before .before .before .before .is-leaf) .ensures) ∙ l in enters-bare (contextOf (read (a .file .now))) (a .s) (a .nodes .now) (a .at .0) (a .n) ((c .before .before .before .before .before .before .before .work-node) .result) ((c .before .before .before .before .before .before .before .work-node) .ensures) bare (sym (not-true ((c .before .before .before .before .leaf-effect) .result) quiet) ∙ (c .before .before .before .before .leaf-effect) .ensures bare) ((c .before .before .before .before .before .before .before .before .before .before .before .before .before .before .before) .pre .1 .1 .1) (eqb-true (a .n .kind) 20 (not-false _ ((c .before .before .before .before .before .before .before .before .before .before .before .if1) .left))) (eqb-true (a .n .children) 2 (not-false _ ((c .before .before .before .before .before .before .before .before .before .if2) .left))) aim q known ((c .before .before .before .before .before .before .before .before .before .before .before .before .before .before .before) .pre .1 .1 .0)
 
-passes-member-requires : tie.Need-passes-member-requires
-passes-member-requires c κs = ((c .before .before .before .before .before .before .before .before .before .before .before .before .before .before .before) .pre .0, ((c .before .before .before .before .before .before .before .before .before .before .before .before .before .before .before) .pre .1 .0, ((c .before .before .before .before .before .before .before .before .before .before .before .before .before .before .before) .pre .1 .1 .0, ((c .before .before .before .before .before .before .before .before .before .before .before .before .before .before .before) .pre .1 .1 .1, (eqb-true ((c .before .before .before .before .before .before .before .before .before .before .before .before .before .before .before) .args .n .kind) 20 (not-false _ ((c .before .before .before .before .before .before .before .before .before .before .before .if1) .left)), eqb-true ((c .before .before .before .before .before .before .before .before .before .before .before .before .before .before .before) .args .n .children) 2 (not-false _ ((c .before .before .before .before .before .before .before .before .before .if2) .left)))))))
+value-behind-member-requires : tie.Need-value-behind-member-requires
+value-behind-member-requires c κs = ((c .before .before .before .before .before .before .before .before .before .before .before .before .before .before .before) .pre .0, ((c .before .before .before .before .before .before .before .before .before .before .before .before .before .before .before) .pre .1 .0, ((c .before .before .before .before .before .before .before .before .before .before .before .before .before .before .before) .pre .1 .1 .0, ((c .before .before .before .before .before .before .before .before .before .before .before .before .before .before .before) .pre .1 .1 .1, (eqb-true ((c .before .before .before .before .before .before .before .before .before .before .before .before .before .before .before) .args .n .kind) 20 (not-false _ ((c .before .before .before .before .before .before .before .before .before .before .before .if1) .left)), eqb-true ((c .before .before .before .before .before .before .before .before .before .before .before .before .before .before .before) .args .n .children) 2 (not-false _ ((c .before .before .before .before .before .before .before .before .before .if2) .left)))))))
 
 returns-4 : tie.Need-returns-4
-returns-4 c = λ _. (c .before .passes-member) .ensures ((c .if4) .taken)
-
-returns-5 : tie.Need-returns-5
-returns-5 c = λ z. absurd (z refl)
+returns-4 c = search needs
 
 pub value-distance-spec : {M : Type 1} → statement M
 value-distance-spec =
@@ -60,6 +57,5 @@ value-distance-spec =
     is-leaf-requires
     leaf-effect-requires
     returns-3
-    passes-member-requires
-    returns-4
-    returns-5)
+    value-behind-member-requires
+    returns-4)
