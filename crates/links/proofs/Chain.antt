@@ -1,23 +1,21 @@
 -- The search down through links, and back. Assumes nothing.
 use Prim.Native.Nat.{ℕ, _+_, _*_, _-_, _≤_, _<_}
 use native.Mathlib.Omega.{arith}
-use mathlib.Core.Bool.{Bool, true, false, cond, _&&_, _||_, not, or-false}
+use mathlib.Core.Bool.{Bool, true, false, cond, _&&_, _||_, not}
 use mathlib.Core.List.{List, _++_}
 use mathlib.Core.Path.{_≡_, refl, sym, ap, _∙_, subst}
 use lib.ListN.{length, set}
 use lib.Seq.{set-getD}
-use lib.Dec.{eqb, ltb}
-use borrow.Author.Tests.{eqb-true, ltb-false}
+use lib.Dec.{ltb}
+use borrow.Author.Tests.{ltb-false}
 use Rattle.records.specs.Record.{nodeAt}
 use Rattle.records.specs.Tree.{Node, Tree, Trees, node, none, more, count, recordOf, nodeOf}
 use Rattle.records.specs.declared.layout.NodeRecord.{NodeRecord}
-use Rattle.records.proofs.Tests.{clash}
 use Rattle.table.specs.Table.{workBytes}
 use Rattle.table.specs.Laid.{laids, TreeAt}
 use Rattle.table.proofs.Before.{node-before}
 use Rattle.table.proofs.Laid.{inside}
 use Rattle.walk.specs.Context.{Context}
-use Rattle.walk.specs.Effect.{hasEffect}
 use Rattle.walk.specs.Shape.{is, Choice, never, skips, cuts, picks, Shape as RuleShape, constant, identifier, targetName, leaf, chain, import, delete, sequence, property, stopping, assignment, steps, shape, cleared}
 use Rattle.walk.specs.Looks.{ownLooks, looksInExpression}
 use Rattle.walk.specs.Substitute.{Answer as RuleAnswer, isSpecificId, keepsCallee, keepsIndirect, first, next as nextPlan, planFor, plan, substituteInExpression}

@@ -1,7 +1,7 @@
 -- Where the search ended in the only child of a node, it ended in the node. Assumes nothing.
 use Prim.Native.Nat.{ℕ, _+_, _-_, _*_, _≤_, _<_}
 use native.Mathlib.Omega.{arith}
-use mathlib.Core.Bool.{Bool, true, false, _||_}
+use mathlib.Core.Bool.{Bool, false}
 use mathlib.Core.List.{List}
 use mathlib.Core.Path.{_≡_, refl, sym, ap, _∙_, subst}
 use lib.ListN.{length}
@@ -13,7 +13,7 @@ use Rattle.walk.specs.Looks.{ownLooks}
 use Rattle.walk.specs.Shape.{cleared}
 use Rattle.plans.specs.declared.sought.Sought.{Sought}
 use Rattle.plans.specs.declared.walked.Walked.{Walked}
-use Rattle.plans.specs.Answers.{isPassed, isReplaced}
+use Rattle.plans.specs.Answers.{isPassed}
 use Rattle.plans.specs.Described.{Known}
 use Rattle.plans.specs.Search.{Searchable, Searches}
 use Rattle.links.specs.OfNode.{gather, behind}

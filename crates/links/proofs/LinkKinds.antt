@@ -1,7 +1,7 @@
 -- The kinds of nodes that are links, where they have children. Assumes nothing.
 use Prim.Native.Nat.{ℕ}
 use mathlib.Core.Bool.{Bool, true, false, cond, _&&_, _||_, not, true≢false}
-use mathlib.Core.Path.{_≡_, refl, sym, ap, _∙_, subst}
+use mathlib.Core.Path.{_≡_, refl, sym, ap, _∙_}
 use lib.Dec.{eqb, ltb}
 use borrow.Author.Tests.{not-true, ne-eqb, eqb-true}
 use Rattle.records.specs.Flags.{shorthand, computed, proto, optional}
@@ -12,12 +12,11 @@ use Rattle.records.specs.File.{firstTree}
 use Rattle.records.specs.declared.layout.NodeRecord.{NodeRecord}
 use Rattle.records.proofs.Sets.{allBelow, below, follows, low-bit}
 use Rattle.records.proofs.Tests.{both, and-right, neither, clash}
-use Rattle.walk.specs.Shape.{is, isMemberExpression, Choice, never, skips, cuts, picks, chain, import, sequence, property, stopping, steps, shape, cleared}
+use Rattle.walk.specs.Shape.{is, isMemberExpression, never, skips, cuts, picks, chain, import, sequence, property, stopping, steps, shape, cleared}
 use Rattle.walk.specs.Looks.{ownLooks}
 use Rattle.walk.specs.Substitute.{isSpecificId, isMemberTag, keepsCallee, keepsIndirect, plan}
 use Rattle.plans.specs.declared.sought.Sought.{Sought}
 use Rattle.plans.specs.Described.{Describes}
-use Rattle.plans.specs.declared.plan.Plan.the-variants.{All, First, Test}
 use Rattle.links.specs.Links.{linkPlan, linkLooks, plainKind, memberKind, linkKind, onward, IsLink}
 use Rattle.links.proofs.ShapeCases.{shape-by}
 use Rattle.links.proofs.Chain.{link-steps, link-shaped}

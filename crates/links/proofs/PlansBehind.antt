@@ -1,6 +1,6 @@
 -- The plan for the children behind so many. Assumes nothing.
 use Prim.Native.Nat.{ℕ, zero, suc}
-use mathlib.Core.Bool.{Bool, true, false}
+use mathlib.Core.Bool.{true, false}
 use mathlib.Core.Path.{_≡_, refl, ap, _∙_}
 use Rattle.records.proofs.Tests.{clash}
 use Rattle.walk.specs.Substitute.{next}

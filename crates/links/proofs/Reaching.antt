@@ -1,5 +1,5 @@
 -- The child of a link that the search goes down to. Assumes nothing.
-use Prim.Native.Nat.{ℕ, suc, _+_, _*_, _-_, _≤_, _<_}
+use Prim.Native.Nat.{ℕ, suc, _+_, _*_, _-_, _≤_}
 use native.Mathlib.Omega.{arith}
 use mathlib.Core.Bool.{Bool, true, false, _||_}
 use mathlib.Core.List.{List}
@@ -12,24 +12,22 @@ use Rattle.walk.specs.Context.{Context}
 use Rattle.walk.specs.Effect.{hasEffect}
 use Rattle.walk.specs.Shape.{is, shape, cleared}
 use Rattle.walk.specs.Looks.{ownLooks}
-use Rattle.walk.specs.Substitute.{isSpecificId}
 use Rattle.plans.specs.declared.begin.Begun.{Begun}
 use Rattle.plans.specs.declared.plan.Plan.{Plan}
 use Rattle.plans.specs.declared.sought.Sought.{Sought}
 use Rattle.plans.specs.declared.walked.Answer.the-variants.{Passed}
 use Rattle.plans.specs.declared.walked.Walked.{Walked}
 use Rattle.plans.specs.Shapes.{planned}
-use Rattle.plans.specs.Plans.{isNothing}
 use Rattle.plans.specs.Begins.{BeginsAt}
 use Rattle.plans.specs.Described.{Known}
 use Rattle.plans.specs.Search.{Searchable, Searches, SearchesRow}
-use Rattle.links.specs.OfNode.{gather, isLeaf, movesLeaf, passesName, PassedLeaf}
-use Rattle.links.specs.Links.{linkPlan, linkLooks, nextOf, planBehind, onward, IsLink, Goes, OfChildren, Steady, no-leaves, one-more, Between, past-leaves, past-target, Reaches, leftFrom, EntersAt, Links, start, link, LinksTo, Going, begun, through}
+use Rattle.links.specs.OfNode.{gather, isLeaf, PassedLeaf}
+use Rattle.links.specs.Links.{linkPlan, linkLooks, nextOf, planBehind, onward, IsLink, Goes, OfChildren, Steady, no-leaves, one-more, Between, past-leaves, past-target, Reaches, leftFrom, EntersAt, Links, start, link, Going, begun, through}
 use Rattle.links.proofs.Leaves.{leaf-by}
 use Rattle.links.proofs.Searching.{searchable-room, first-searchable}
 use Rattle.links.proofs.Nodes.{begun-row}
 use Rattle.links.proofs.PlansBehind.{next-is, onward-enters, onward-behind}
-use Rattle.links.proofs.Going.{gather-none, goes-start, goes-on}
+use Rattle.links.proofs.Going.{gather-none, goes-on}
 use Rattle.links.proofs.Chain.{plan-enters, children-row, link-children, link-steady, links-seen}
 
 -- A leaf that is passed, as the search says it.

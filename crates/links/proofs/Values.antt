@@ -1,18 +1,17 @@
 -- An assignment whose target doesn't end the search: its value is searched. Assumes nothing.
 use Prim.Native.Nat.{ℕ, _+_, _*_, _-_}
 use native.Mathlib.Omega.{arith}
-use mathlib.Core.Bool.{Bool, true, false, cond, _&&_, _||_, not, or-false}
+use mathlib.Core.Bool.{Bool, true, false, _&&_, _||_, not}
 use mathlib.Core.List.{List}
 use mathlib.Core.Path.{_≡_, refl, sym, ap, _∙_, subst}
 use lib.Dec.{eqb}
 use borrow.Author.Tests.{eqb-true, not-true}
 use Rattle.records.specs.Flags.{marked, compound}
 use Rattle.records.specs.Record.{nodeAt}
-use Rattle.records.specs.Tree.{Node, Tree, Trees, node, none, more, count, size, sizes, recordOf, nodeOf}
+use Rattle.records.specs.Tree.{node, none, more, count, size, sizes, recordOf, nodeOf}
 use Rattle.records.specs.declared.layout.NodeRecord.{NodeRecord}
 use Rattle.records.specs.Place.{isExpression}
 use Rattle.records.proofs.Tests.{both, all-three, and-left}
-use Rattle.table.specs.Laid.{TreeAt}
 use Rattle.table.proofs.Laid.{first, inside}
 use Rattle.walk.specs.Context.{Context}
 use Rattle.walk.specs.Effect.{hasEffect, mayHaveSideEffects, anyHasSideEffects}

@@ -3,7 +3,6 @@ use Prim.Native.Nat.{ℕ, zero, suc, _+_, _-_, _*_, _≤_, _<_}
 use mathlib.Core.Bool.{Bool, true, false, cond, _||_, not}
 use mathlib.Core.List.{List, _++_}
 use mathlib.Core.Path.{_≡_}
-use lib.ListN.{length}
 use lib.Dec.{eqb}
 use Rattle.records.specs.File.{one}
 use Rattle.records.specs.Record.{nodeAt}
@@ -22,11 +21,9 @@ use Rattle.plans.specs.declared.sought.Sought.{Sought}
 use Rattle.plans.specs.declared.walked.Walked.{Walked}
 use Rattle.plans.specs.Shapes.{planned}
 use Rattle.plans.specs.Plans.{isNothing}
-use Rattle.plans.specs.Answers.{isReplaced}
-use Rattle.plans.specs.Described.{Describes, Known}
+use Rattle.plans.specs.Described.{Describes}
 use Rattle.plans.specs.Passing.{stopsIn}
-use Rattle.plans.specs.Search.{allBareNames, Searchable, SearchableRow, Did, Searches, SearchesRow}
-use Rattle.links.specs.declared.above.Before.{Before}
+use Rattle.plans.specs.Search.{allBareNames, Searchable, SearchableRow, Did, SearchesRow}
 use Rattle.links.specs.OfNode.{gather, isLeaf}
 
 -- the plan of a node that keeps neither a callee nor a tag

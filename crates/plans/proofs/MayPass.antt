@@ -1,10 +1,8 @@
 -- Passing a node: the code's tests and the rules'.
-use Prim.Native.Nat.{ℕ}
-use mathlib.Core.Bool.{Bool, true, false, cond, _&&_, _||_, not}
-use mathlib.Core.Path.{_≡_, refl, sym, ap, _∙_}
+use mathlib.Core.Bool.{Bool, true, false, _&&_, _||_, not}
+use mathlib.Core.Path.{_≡_, refl, sym}
 use Rattle.records.specs.Flags.{computed}
-use Rattle.records.specs.Tree.{Node, Tree, Trees, node, nodeOf}
-use Rattle.records.specs.File.{firstTree}
+use Rattle.records.specs.Tree.{Tree, Trees, node, nodeOf}
 use Rattle.records.specs.declared.layout.NodeRecord.{NodeRecord}
 use Rattle.walk.specs.Context.{Context}
 use Rattle.walk.specs.Unsettled.{unsettled}

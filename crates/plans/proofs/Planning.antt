@@ -1,7 +1,7 @@
 -- Plans: the code's tests and the rules'.
 use Prim.Native.Nat.{ℕ}
-use mathlib.Core.Bool.{Bool, true, false, cond, _&&_, _||_, not}
-use mathlib.Core.Path.{_≡_, refl, sym, ap, _∙_}
+use mathlib.Core.Bool.{Bool, true, false, _&&_, _||_}
+use mathlib.Core.Path.{_≡_, refl}
 use lib.Dec.{eqb}
 use Rattle.records.specs.Flags.{optional}
 use Rattle.records.specs.Tree.{Node, Tree, Trees, nodeOf}
@@ -10,13 +10,13 @@ use Rattle.records.specs.Place.{root}
 use Rattle.records.specs.declared.layout.NodeRecord.{NodeRecord}
 use Rattle.records.proofs.Tests.{clash}
 use Rattle.walk.specs.Context.{Context}
-use Rattle.walk.specs.Shape.{is, isMemberExpression, Choice, never, skips, cuts, picks, Shape as RuleShape, assignment, steps}
+use Rattle.walk.specs.Shape.{is, isMemberExpression, assignment}
 use Rattle.walk.specs.Effect.{mayHaveSideEffects}
 use Rattle.walk.specs.Substitute.{Plan as RulePlan, all, first, nothing, test, plan, planFor, keepsCallee, keepsIndirect, isSpecificId}
 use Rattle.plans.specs.declared.shape.Shape.{Shape}
 use Rattle.plans.specs.declared.shape.Shape.the-variants.{Constant, Identifier, TargetName, Leaf, Chain, Import, Delete, Sequence, Property, Stopping, Assignment, CompoundAssignment, Logical, Conditional, Optional, Steps}
 use Rattle.plans.specs.declared.sought.Sought.{Sought}
-use Rattle.plans.specs.Shapes.{shaped, planned, isAssignment}
+use Rattle.plans.specs.Shapes.{shaped, isAssignment}
 use Rattle.plans.specs.Described.{Describes}
 use Rattle.plans.specs.Plans.{propertyPlan, stepsPlan}
 

@@ -1,7 +1,7 @@
 -- What the code says of passing a node.
-use mathlib.Core.Bool.{Bool, true, false, cond, _&&_, _||_, not}
+use mathlib.Core.Bool.{Bool, false, _&&_, _||_, not}
 use mathlib.Core.Path.{_≡_}
-use Rattle.records.specs.Tree.{Node, Tree, Trees, nodeOf}
+use Rattle.records.specs.Tree.{Tree, Trees, nodeOf}
 use Rattle.records.specs.File.{firstTree}
 use Rattle.records.specs.declared.layout.NodeRecord.{NodeRecord}
 use Rattle.walk.specs.Context.{Context}

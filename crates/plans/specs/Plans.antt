@@ -1,6 +1,6 @@
 -- What the code says of plans: the tests of document 01's rules, of a node, its first child and what is known of the tree to
 -- place.
-use mathlib.Core.Bool.{Bool, true, false, cond, _&&_, _||_}
+use mathlib.Core.Bool.{Bool, true, false, cond}
 use mathlib.Core.Path.{_≡_}
 use Rattle.records.specs.Flags.{computed}
 use Rattle.records.specs.Tree.{Node, Tree, Trees, nodeOf}

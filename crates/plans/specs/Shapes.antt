@@ -1,10 +1,9 @@
 -- The shapes and plans of the code, as those of the rules.
 use mathlib.Core.Bool.{Bool, true, false, cond, _&&_, _||_}
-use lib.Dec.{eqb}
 use Rattle.records.specs.Flags.{optional, compound}
 use Rattle.records.specs.Node.{twoChildren}
 use Rattle.records.specs.Tree.{Node}
-use Rattle.walk.specs.Shape.{is, isMemberExpression, Choice, never, skips, cuts, picks, Shape as RuleShape, constant, identifier, targetName, leaf, chain, import, delete, sequence, property, stopping, assignment, steps}
+use Rattle.walk.specs.Shape.{is, isMemberExpression, never, skips, cuts, picks, Shape as RuleShape, constant, identifier, targetName, leaf, chain, import, delete, sequence, property, stopping, assignment, steps}
 use Rattle.walk.specs.Substitute.{Plan as RulePlan, all, first, nothing, test, branches}
 use Rattle.plans.specs.declared.shape.Shape.{Shape}
 use Rattle.plans.specs.declared.shape.Shape.the-variants.{Constant, Identifier, TargetName, Leaf, Chain, Import, Delete, Sequence, Property, Stopping, Assignment, CompoundAssignment, Logical, Conditional, Optional, Steps}

@@ -1,19 +1,19 @@
 -- What is known of a file that rows 1, 3, 4 or 6 don't refuse. Assumes nothing.
-use mathlib.Core.Path.{_≡_, refl, sym, ap, _∙_}
-use mathlib.Core.Bool.{Bool, true, false, not, _&&_, _||_, true≢false}
-use mathlib.Core.List.{List, [], _∷_}
-use Prim.Native.Nat.{ℕ, _+_, _*_, _≤_, _<_}
+use mathlib.Core.Path.{_≡_, refl}
+use mathlib.Core.Bool.{Bool, true, false, not, _&&_, _||_}
+use mathlib.Core.List.{List}
+use Prim.Native.Nat.{ℕ, _+_, _*_, _≤_}
 use native.Mathlib.Omega.{arith}
 use lib.ListN.{length}
 use lib.Dec.{eqb, ltb, leb}
 use borrow.Author.Tests.{not-false, ltb-true, ltb-false, lt-ltb, leb-true, eqb-true}
 use Rattle.records.specs.Limits.{noNumber}
-use Rattle.records.specs.Records.{everyFrom, every}
+use Rattle.records.specs.Records.{every}
 use Rattle.records.specs.Flags.{unresolved}
 use Rattle.records.specs.Record.{headerOf, nameAt}
 use Rattle.records.specs.File.{fileLength, namesOf, declaratorsOf, statementsOf}
 use Rattle.records.specs.Header.{notAScript, outsideLimits, otherLength, countsFit, optionsKnown, headerScopes}
-use Rattle.records.specs.Script.{goodDeclarator, goodDeclaratorOf, goodStatement, flagsOf, declaratorSum, badScript}
+use Rattle.records.specs.Script.{goodDeclarator, goodDeclaratorOf, goodStatement, flagsOf, badScript}
 use Rattle.records.specs.declared.layout.Header.{Header}
 use Rattle.records.specs.declared.layout.NameFacts.{NameFacts}
 use Rattle.records.specs.declared.layout.DeclaratorRecord.{DeclaratorRecord}

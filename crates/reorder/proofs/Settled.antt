@@ -1,10 +1,9 @@
 -- A name that is settled by its own facts. Assumes nothing.
-use Prim.Native.Nat.{ℕ}
 use mathlib.Core.Bool.{Bool, true, false, cond, _&&_, _||_, not}
 use mathlib.Core.Path.{_≡_, refl}
-use lib.Dec.{eqb, ltb}
+use lib.Dec.{eqb}
 use borrow.Author.Tests.{eqb-true, not-true}
-use Rattle.records.specs.Flags.{bit, recorded, mutated, unresolved}
+use Rattle.records.specs.Flags.{recorded, mutated, unresolved}
 use Rattle.records.specs.declared.layout.NameFacts.{NameFacts}
 use Rattle.records.proofs.Tests.{all-three, neither}
 use Rattle.walk.specs.Context.{Context, isScript}

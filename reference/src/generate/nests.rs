@@ -142,14 +142,16 @@ fn nest(level: &Level, initializer: &[Node]) -> RecordFile {
     file
 }
 
-/// Every nest, once for a literal and once for an effect.
+/// Every nest, for a literal, for an effect and for a member.
 pub fn nests() -> Vec<(String, RecordFile)> {
-    let effect = [node(kind::CALL, flag::MARK, 0, 1), settled()];
+    let initializers = [
+        ("literal", vec![literal()]),
+        ("effect", vec![node(kind::CALL, flag::MARK, 0, 1), settled()]),
+        ("member", vec![parent(kind::STATIC_MEMBER, 1), settled()]),
+    ];
     let of = |level: &Level| {
-        [
-            (format!("{}, literal", level.what), nest(level, &[literal()])),
-            (format!("{}, effect", level.what), nest(level, &effect)),
-        ]
+        let named = |what: &str| format!("{}, {what}", level.what);
+        initializers.each_ref().map(|(what, tree)| (named(what), nest(level, tree)))
     };
     levels().iter().flat_map(of).collect()
 }

@@ -1,6 +1,4 @@
-use mathlib.Core.Bool.{false}
 use mathlib.Core.Path.{sym, _∙_}
-use borrow.Author.Tests.{not-true}
 use Rattle.links.proofs.Ending.{carries-none}
 use borrow.Author.Needs.{needs}
 use Rattle.links.proofs.above.above_ended.Statement.{statement}

@@ -1,7 +1,5 @@
 use native.Mathlib.Omega.{arith}
-use Prim.Native.Nat.{_+_, _*_, _≤_}
-use mathlib.Core.Path.{sym}
-use lib.ListN.{length}
+use Prim.Native.Nat.{_+_, _≤_}
 use borrow.Author.Tests.{not-false, eqb-true}
 use Rattle.links.specs.Above.{CarriesEnded}
 use Rattle.links.proofs.Ending.{carries-none, carries-on}

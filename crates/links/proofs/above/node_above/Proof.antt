@@ -1,12 +1,11 @@
 use native.Mathlib.Omega.{arith}
 use Prim.Native.Nat.{ℕ, _+_, _*_, _-_, _≤_}
-use mathlib.Core.Bool.{Bool, false, _||_}
+use mathlib.Core.Bool.{Bool, _||_}
 use mathlib.Core.Path.{_≡_, sym, ap, _∙_, subst}
 use Rattle.records.specs.Tree.{nodeOf}
 use Rattle.walk.specs.Looks.{ownLooks}
 use lib.ListN.{length}
 use Rattle.records.specs.Record.{nodeAt}
-use Rattle.links.specs.OfNode.{isLeaf}
 use Rattle.links.specs.Links.{Leaves}
 use Rattle.links.specs.Above.{SomeNode}
 use Rattle.links.proofs.LeavesBefore.{leaves-back, node-sooner, leaves-start, leaves-all, above-node, is-target, is-above, same-answer}

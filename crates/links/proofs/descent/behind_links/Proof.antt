@@ -1,7 +1,6 @@
 use native.Mathlib.Omega.{arith}
-use Prim.Native.Nat.{ℕ, _+_, _-_, _*_, _<_}
-use mathlib.Core.Bool.{true, false}
-use mathlib.Core.Path.{_≡_, refl, sym, ap, _∙_}
+use Prim.Native.Nat.{_-_, _*_}
+use mathlib.Core.Path.{_≡_, refl}
 use borrow.Author.Tests.{not-false}
 use lib.ListN.{length}
 use Rattle.records.specs.Record.{nodeAt}

@@ -1,5 +1,5 @@
-use mathlib.Core.Bool.{true, false, not}
-use mathlib.Core.Path.{_≡_, refl, subst}
+use mathlib.Core.Bool.{false, not}
+use mathlib.Core.Path.{refl, subst}
 use borrow.Author.Tests.{not-true, not-false}
 use Rattle.records.proofs.Tests.{both, clash}
 use Rattle.plans.specs.Plans.{KeepsCallee, KeepsIndirect}

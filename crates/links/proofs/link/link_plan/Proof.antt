@@ -1,6 +1,4 @@
-use mathlib.Core.Path.{_≡_, refl, sym, ap, _∙_}
-use Rattle.records.specs.Tree.{nodeOf}
-use Rattle.walk.specs.Shape.{shape}
+use mathlib.Core.Path.{sym, ap, _∙_}
 use Rattle.plans.specs.Shapes.{shaped}
 use Rattle.links.specs.Links.{linkPlan}
 use borrow.Author.Needs.{needs}

@@ -1,7 +1,6 @@
 -- `links::node::cleared_flags` meets its contract. Assumes nothing.
 use native.Mathlib.Omega.{arith}
-use mathlib.Core.Bool.{Bool, true, false, cond, _&&_, _||_, not}
-use mathlib.Core.Path.{_≡_, refl, sym, ap, _∙_, subst}
+use mathlib.Core.Path.{refl}
 use lib.Dec.{eqb}
 use Rattle.records.specs.Tree.{nodeOf}
 use Rattle.walk.specs.Shape.{cleared}

@@ -1,6 +1,5 @@
 -- `links::node::is_specific_id` meets its contract. Assumes nothing.
-use mathlib.Core.Bool.{Bool, true, false, cond, _&&_, _||_, not}
-use mathlib.Core.Path.{_≡_, refl, sym, ap, _∙_, subst}
+use mathlib.Core.Path.{refl}
 use Rattle.records.specs.Tree.{nodeOf}
 use Rattle.walk.specs.Substitute.{isSpecificId}
 use Rattle.links.proofs.node.is_specific_id.Statement.{statement}

@@ -1,5 +1,4 @@
-use mathlib.Core.Bool.{_||_}
-use mathlib.Core.Path.{_≡_, refl, sym, ap, _∙_}
+use mathlib.Core.Path.{ap}
 use Rattle.links.specs.OfNode.{behind}
 use Rattle.links.proofs.OfNode.{of-clearing}
 use borrow.Author.Needs.{needs}

@@ -1,6 +1,4 @@
 use native.Mathlib.Omega.{arith}
-use mathlib.Core.Bool.{_||_}
-use mathlib.Core.Path.{_≡_, refl, sym, ap, _∙_}
 use Rattle.records.specs.File.{read}
 use Rattle.walk.specs.Context.{contextOf}
 use Rattle.links.specs.OfNode.{behind}

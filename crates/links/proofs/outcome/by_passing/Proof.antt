@@ -1,4 +1,3 @@
-use mathlib.Core.Path.{_≡_, refl, sym, ap, _∙_}
 use borrow.Author.Needs.{needs}
 use Rattle.links.proofs.outcome.by_passing.Statement.{statement}
 use Rattle.links.proofs.outcome.by_passing.Tie as tie

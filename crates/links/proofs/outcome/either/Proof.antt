@@ -1,4 +1,4 @@
-use mathlib.Core.Path.{_≡_, refl, sym, ap, _∙_}
+use mathlib.Core.Path.{sym, _∙_}
 use Rattle.links.proofs.Either.{either-replaced, either-stopped}
 use borrow.Author.Needs.{needs}
 use Rattle.links.proofs.outcome.either.Statement.{statement}

@@ -1,11 +1,8 @@
 use native.Mathlib.Omega.{arith}
-use mathlib.Core.Bool.{Bool, true, false, _&&_, _||_, not}
-use mathlib.Core.Path.{_≡_, refl, sym, ap, _∙_, subst}
-use lib.Dec.{eqb}
-use borrow.Author.Tests.{not-false, not-true, eqb-true}
-use Rattle.records.specs.Flags.{marked}
-use Rattle.records.proofs.Tests.{all-three, clash}
-use Rattle.links.specs.Members.{PlainMember}
+use mathlib.Core.Bool.{false}
+use mathlib.Core.Path.{refl}
+use borrow.Author.Tests.{not-false, eqb-true}
+use Rattle.records.proofs.Tests.{clash}
 use Rattle.links.proofs.Searching.{searchable-room}
 use Rattle.links.proofs.Values.{target-here, object-here, plain-member}
 use Rattle.links.proofs.value.is_to_plain_member.Statement.{statement}

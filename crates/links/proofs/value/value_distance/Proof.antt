@@ -1,6 +1,6 @@
 use native.Mathlib.Omega.{arith}
-use mathlib.Core.Bool.{Bool, true, false, _&&_, _||_, not}
-use mathlib.Core.Path.{_≡_, refl, sym, ap, _∙_}
+use mathlib.Core.Bool.{_&&_, _||_, not}
+use mathlib.Core.Path.{refl, sym, _∙_}
 use lib.Dec.{eqb}
 use borrow.Author.Tests.{not-false, not-true, eqb-true}
 use Rattle.records.specs.Flags.{compound}

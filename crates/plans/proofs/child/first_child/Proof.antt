@@ -1,7 +1,6 @@
 -- `plans::child::first_child` meets its contract. Assumes nothing.
 use Prim.Native.Nat.{_-_}
 use native.Mathlib.Omega.{arith}
-use mathlib.Core.Path.{_≡_, refl, sym, ap, _∙_}
 use Rattle.plans.proofs.Children.{kids-stand, first-stands, stands-room, first-missing, first-read}
 use borrow.Author.Needs.{needs}
 use Rattle.plans.proofs.child.first_child.Statement.{statement}

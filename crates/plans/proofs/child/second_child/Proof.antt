@@ -1,7 +1,6 @@
 -- `plans::child::second_child` meets its contract. Assumes nothing.
 use Prim.Native.Nat.{_-_}
 use native.Mathlib.Omega.{arith}
-use mathlib.Core.Path.{_≡_, refl, sym, ap, _∙_}
 use Rattle.plans.proofs.Children.{kids-stand, first-stands, alone-stands, stands-room, second-missing, second-read, second-room}
 use borrow.Author.Needs.{needs}
 use Rattle.plans.proofs.child.second_child.Statement.{statement}

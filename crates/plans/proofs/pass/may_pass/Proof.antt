@@ -1,6 +1,6 @@
 -- `plans::pass::may_pass` meets its contract. Assumes nothing.
-use mathlib.Core.Bool.{Bool, true, false, cond, _&&_, _||_, not}
-use mathlib.Core.Path.{_≡_, refl, sym, ap, _∙_, subst}
+use mathlib.Core.Bool.{true, _&&_, _||_, not}
+use mathlib.Core.Path.{_≡_, refl, sym, _∙_, subst}
 use Rattle.records.specs.Flags.{computed}
 use Rattle.records.specs.File.{read}
 use Rattle.walk.specs.Context.{contextOf}

@@ -1,6 +1,4 @@
 -- `plans::plan::keeps_callee` meets its contract. Assumes nothing.
-use mathlib.Core.Bool.{Bool, true, false, cond, _&&_, _||_, not}
-use mathlib.Core.Path.{_≡_, refl, sym, ap, _∙_}
 use Rattle.plans.proofs.Planning.{callee-kept}
 use Rattle.plans.proofs.plan.keeps_callee.Statement.{statement}
 use Rattle.plans.proofs.plan.keeps_callee.Tie as tie

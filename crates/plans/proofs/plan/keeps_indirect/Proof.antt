@@ -1,6 +1,4 @@
 -- `plans::plan::keeps_indirect` meets its contract. Assumes nothing.
-use mathlib.Core.Bool.{Bool, true, false, cond, _&&_, _||_, not}
-use mathlib.Core.Path.{_≡_, refl, sym, ap, _∙_}
 use Rattle.plans.proofs.Planning.{indirect-kept}
 use Rattle.plans.proofs.plan.keeps_indirect.Statement.{statement}
 use Rattle.plans.proofs.plan.keeps_indirect.Tie as tie

@@ -1,6 +1,5 @@
 -- `plans::plan::next_plan` meets its contract. Assumes nothing.
-use mathlib.Core.Bool.{Bool, true, false, cond, _&&_, _||_, not}
-use mathlib.Core.Path.{_≡_, refl, sym, ap, _∙_}
+use mathlib.Core.Path.{refl}
 use Rattle.walk.specs.Substitute.{next}
 use borrow.Author.Needs.{needs}
 use Rattle.plans.proofs.plan.next_plan.Statement.{statement}

@@ -1,6 +1,4 @@
 -- `plans::plan::plan_of_property` meets its contract. Assumes nothing.
-use mathlib.Core.Bool.{Bool, true, false, cond, _&&_, _||_, not}
-use mathlib.Core.Path.{_≡_, refl, sym, ap, _∙_}
 use Rattle.records.specs.Tree.{nodeOf}
 use Rattle.plans.proofs.plan.plan_of_property.Statement.{statement}
 use Rattle.plans.proofs.plan.plan_of_property.Tie as tie

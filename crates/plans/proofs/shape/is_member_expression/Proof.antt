@@ -1,6 +1,5 @@
 -- `plans::shape::is_member_expression` meets its contract. Assumes nothing.
-use mathlib.Core.Bool.{Bool, true, false, cond, _&&_, _||_, not}
-use mathlib.Core.Path.{_≡_, refl, sym, ap, _∙_}
+use mathlib.Core.Path.{refl}
 use Rattle.records.specs.Tree.{nodeOf}
 use Rattle.plans.proofs.shape.is_member_expression.Statement.{statement}
 use Rattle.plans.proofs.shape.is_member_expression.Tie as tie

@@ -1,6 +1,5 @@
 -- `plans::target::may_depend_on_side_effect` meets its contract. Assumes nothing.
 use Prim.Native.Nat.{_-_}
-use mathlib.Core.Path.{_≡_, refl, sym, ap, _∙_}
 use Rattle.records.specs.File.{read}
 use Rattle.walk.specs.Context.{contextOf}
 use Rattle.plans.proofs.Targets.{depends-name, depends-object, depends-key, depends-member, depends-other}

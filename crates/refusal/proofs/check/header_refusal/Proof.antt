@@ -1,6 +1,6 @@
 -- `refusal::check::header_refusal` meets its contract. Assumes nothing.
 use native.Mathlib.Omega.{arith}
-use mathlib.Core.Path.{_≡_, refl, sym, ap, _∙_, subst}
+use mathlib.Core.Path.{sym, _∙_, subst}
 use Rattle.records.specs.Refusal.{refusal}
 use Rattle.refusal.specs.Passing.{HeaderPasses}
 use Rattle.refusal.proofs.Limits.{long-enough}

@@ -1,5 +1,5 @@
 -- `refusal::file_rows::counts_are_bad` meets its contract. Assumes nothing.
-use mathlib.Core.Path.{_≡_, refl, sym, ap, _∙_}
+use mathlib.Core.Path.{_∙_}
 use native.Mathlib.Omega.{arith}
 use Rattle.records.specs.File.{namesOf}
 use Rattle.records.specs.Record.{nameAt}

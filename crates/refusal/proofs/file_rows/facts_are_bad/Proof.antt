@@ -1,7 +1,6 @@
 -- `refusal::file_rows::facts_are_bad` meets its contract. Assumes nothing.
-use mathlib.Core.Path.{_≡_, refl, sym, ap, _∙_}
 use native.Mathlib.Omega.{arith}
-use Rattle.records.specs.Record.{nameAt, scopeAt, frameAt, headerOf}
+use Rattle.records.specs.Record.{scopeAt, headerOf}
 use Rattle.records.specs.Facts.{badFacts}
 use Rattle.records.specs.File.{namesOf, scopesOf, framesOf, scopesStart}
 use Rattle.records.proofs.Series.{records-length}

@@ -1,5 +1,5 @@
 -- `refusal::file_rows::names_are_declared_twice` meets its contract. Assumes nothing.
-use mathlib.Core.Path.{_≡_, refl, sym, ap, _∙_}
+use mathlib.Core.Path.{_∙_}
 use native.Mathlib.Omega.{arith}
 use Rattle.records.specs.File.{declaratorsOf}
 use borrow.Author.Needs.{needs}

@@ -1,5 +1,5 @@
 -- `refusal::file_rows::node_rows` meets its contract. Assumes nothing.
-use mathlib.Core.Path.{_≡_, refl, sym, ap, _∙_}
+use mathlib.Core.Path.{ap}
 use mathlib.Core.Bool.{not}
 use native.Mathlib.Omega.{arith}
 use Rattle.records.specs.File.{declaratorsOf, statementsOf}

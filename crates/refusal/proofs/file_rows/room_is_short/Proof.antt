@@ -1,6 +1,4 @@
 -- `refusal::file_rows::room_is_short` meets its contract. Assumes nothing.
-use mathlib.Core.Path.{_≡_, refl, sym, ap, _∙_}
-use native.Mathlib.Omega.{arith}
 use Rattle.records.specs.Refusal.{roomWanted}
 use borrow.Author.Needs.{needs}
 use Rattle.refusal.proofs.file_rows.room_is_short.Statement.{statement}

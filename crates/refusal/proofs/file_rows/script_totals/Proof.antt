@@ -1,8 +1,6 @@
 -- `refusal::file_rows::script_totals` meets its contract. Assumes nothing.
-use mathlib.Core.Path.{_≡_, refl, sym, ap, _∙_}
 use native.Mathlib.Omega.{arith}
-use lib.ListN.{length}
-use Rattle.records.specs.Record.{headerOf, declaratorAt, statementAt}
+use Rattle.records.specs.Record.{headerOf, declaratorAt}
 use Rattle.records.specs.Script.{badScript}
 use Rattle.records.specs.File.{namesOf, declaratorsOf, statementsOf, declaratorsStart}
 use Rattle.records.proofs.Series.{records-length}

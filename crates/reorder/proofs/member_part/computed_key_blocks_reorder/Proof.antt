@@ -1,6 +1,4 @@
 -- `reorder::member_part::computed_key_blocks_reorder` meets its contract. Assumes nothing.
-use mathlib.Core.Path.{_≡_, refl, sym, ap, _∙_}
-use native.Mathlib.Omega.{arith}
 use mathlib.Core.Bool.{or-false}
 use lib.Dec.{eqb}
 use Rattle.records.specs.Tree.{nodeOf}

@@ -1,6 +1,5 @@
 -- `reorder::this_blocks::is_initialised_at` meets its contract. Assumes nothing.
-use mathlib.Core.Path.{_≡_, refl, sym, ap, _∙_}
-use native.Mathlib.Omega.{arith}
+use mathlib.Core.Path.{refl}
 use Rattle.walk.specs.This.{isInitialisedAt}
 use Rattle.reorder.proofs.this_blocks.is_initialised_at.Statement.{statement}
 use Rattle.reorder.proofs.this_blocks.is_initialised_at.Tie as tie

@@ -1,5 +1,4 @@
 -- `reorder::this_blocks::this_blocks` meets its contract. Assumes nothing.
-use mathlib.Core.Path.{_≡_, refl, sym, ap, _∙_}
 use native.Mathlib.Omega.{arith}
 use Rattle.records.specs.Record.{frameAt}
 use Rattle.frames.proofs.Searching.{Searching, searching-none, searching-more, searching-found, searching-all, no-scope}

@@ -1,6 +1,4 @@
 -- `reorder::unsettled::facts_of` meets its contract. Assumes nothing.
-use mathlib.Core.Path.{_≡_, refl, sym, ap, _∙_}
-use native.Mathlib.Omega.{arith}
 use Rattle.reorder.proofs.Climbing.{name-known, name-none}
 use borrow.Author.Needs.{needs}
 use Rattle.reorder.proofs.unsettled.facts_of.Statement.{statement}

@@ -1,5 +1,5 @@
 -- `reorder::unsettled::identifier_read_blocks_reorder` meets its contract. Assumes nothing.
-use mathlib.Core.Path.{_≡_, refl, sym, ap, _∙_}
+use mathlib.Core.Path.{refl, sym}
 use Rattle.walk.specs.Unsettled.{unsettled}
 use borrow.Author.Needs.{needs}
 use Rattle.reorder.proofs.unsettled.identifier_read_blocks_reorder.Statement.{statement}

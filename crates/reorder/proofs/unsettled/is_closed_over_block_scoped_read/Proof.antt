@@ -1,5 +1,4 @@
 -- `reorder::unsettled::is_closed_over_block_scoped_read` meets its contract. Assumes nothing.
-use mathlib.Core.Path.{_≡_, refl, sym, ap, _∙_}
 use Rattle.records.specs.File.{read}
 use Rattle.walk.specs.Context.{contextOf}
 use Rattle.walk.specs.Unsettled.{isClosedOverBlockScopedRead}

@@ -1,5 +1,4 @@
 -- `reorder::unsettled::is_settled_by_facts` meets its contract. Assumes nothing.
-use mathlib.Core.Path.{_≡_, refl, sym, ap, _∙_}
 use Rattle.records.specs.File.{read}
 use Rattle.walk.specs.Context.{contextOf}
 use Rattle.reorder.proofs.Settled.{settled-by-facts}

@@ -1,6 +1,4 @@
 -- `reorder::unsettled::is_written` meets its contract. Assumes nothing.
-use mathlib.Core.Path.{_≡_, refl, sym, ap, _∙_}
-use native.Mathlib.Omega.{arith}
 use Rattle.walk.specs.Unsettled.{isWritten}
 use Rattle.reorder.proofs.unsettled.is_written.Statement.{statement}
 use Rattle.reorder.proofs.unsettled.is_written.Tie as tie

@@ -1,5 +1,4 @@
 -- `reorder::unsettled::scope_of` meets its contract. Assumes nothing.
-use mathlib.Core.Path.{_≡_, refl, sym, ap, _∙_}
 use native.Mathlib.Omega.{arith}
 use Rattle.reorder.proofs.Climbing.{scope-known, scope-none}
 use borrow.Author.Needs.{needs}

@@ -1,6 +1,4 @@
 -- `reorder::unsettled::symbol_value_may_change` meets its contract. Assumes nothing.
-use mathlib.Core.Path.{_≡_, refl, sym, ap, _∙_}
-use native.Mathlib.Omega.{arith}
 use Rattle.records.specs.File.{read}
 use Rattle.walk.specs.Context.{contextOf}
 use Rattle.walk.specs.Unsettled.{symbolValueMayChange}

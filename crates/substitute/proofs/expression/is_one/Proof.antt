@@ -1,6 +1,5 @@
 -- `substitute::expression::is_one` meets its contract. Assumes nothing.
-use mathlib.Core.Bool.{Bool, true, false, cond, _&&_, _||_, not}
-use mathlib.Core.Path.{_≡_, refl, sym, ap, _∙_, subst}
+use mathlib.Core.Path.{refl}
 use borrow.Author.Needs.{needs}
 use Rattle.substitute.proofs.expression.is_one.Statement.{statement}
 use Rattle.substitute.proofs.expression.is_one.Tie as tie
