@@ -10,10 +10,11 @@ const NODES: usize = 2990;
 type Level = &'static [(u8, u8)];
 
 /// One node a level: await, yield, import, unary, static and private member, callee, callee of new,
-/// private in, array, template, tag. Then, by a call of the search for each level: the right side of
-/// a binary and of a logical operator, the second branch, the value of an assignment, the last of a
-/// sequence, an argument.
-const LEVELS: [Level; 18] = [
+/// private in, array, template, tag. Then the right side of a binary and of a logical operator, the
+/// second branch, the value of an assignment, the last of a sequence, an argument. Last, by calls of
+/// the search for each level: the value of a computed member's assignment, and an array behind an
+/// empty one, which takes the most stack.
+const LEVELS: [Level; 20] = [
     &[(6, 1)],
     &[(7, 1)],
     &[(8, 1)],
@@ -32,6 +33,8 @@ const LEVELS: [Level; 18] = [
     &[(20, 2), (30, 0)],
     &[(28, 2), (1, 0)],
     &[(14, 2), (1, 0)],
+    &[(20, 2), (12, 2), (1, 0), (1, 0)],
+    &[(21, 2), (21, 0)],
 ];
 
 const LITERAL: u8 = 1;

@@ -110,14 +110,11 @@ pub fn plan_behind(p: Plan, many: usize) -> Plan
     }
 }
 
-// A node with few children that are searched each, until one gives an answer. More are passed as fast by the list.
+// A node whose children are searched each, until one gives an answer.
 pub fn enters_all(n: NodeRecord, s: Sought) -> bool
     ensures { λ r. ⌜ (r ≡ true → onward (linkPlan s (shape (nodeOf n))) ≡ true) ⌝ }
 {
     let choice = (n.kind == 17) | (n.kind == 19) | (n.flags / 2 % 2 == 1);
-    if 3 < n.children {
-        return false;
-    }
     if (n.kind == 25) | (n.kind == 26) {
         return false;
     }

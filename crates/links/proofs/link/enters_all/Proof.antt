@@ -12,13 +12,10 @@ returns : tie.Need-returns
 returns c = λ h. clash false refl h
 
 returns-2 : tie.Need-returns-2
-returns-2 c = λ h. clash false refl h
+returns-2 c = λ h. enters-all-is ((c .before .before .before .before .before .before .before) .args .n) ((c .before .before .before .before .before .before .before) .args .s) ((c .before .if1) .left) (λ c. clash _ (not-true _ h) c)
 
 returns-3 : tie.Need-returns-3
-returns-3 c = λ h. enters-all-is ((c .before .before .before .before .before .before .before .before .before) .args .n) ((c .before .before .before .before .before .before .before .before .before) .args .s) ((c .before .if2) .left) (λ c. clash _ (not-true _ h) c)
-
-returns-4 : tie.Need-returns-4
-returns-4 c = λ h. enters-all-is ((c .before .before .before .before .before .before .before .before .before) .args .n) ((c .before .before .before .before .before .before .before .before .before) .args .s) ((c .before .if2) .left) (λ _. (c .if3) .left)
+returns-3 c = λ h. enters-all-is ((c .before .before .before .before .before .before .before) .args .n) ((c .before .before .before .before .before .before .before) .args .s) ((c .before .if1) .left) (λ _. (c .if2) .left)
 
 pub enters-all-spec : {M : Type 1} → statement M
-enters-all-spec = tie.close (tie.spec returns returns-2 returns-3 returns-4)
+enters-all-spec = tie.close (tie.spec returns returns-2 returns-3)
