@@ -1,7 +1,7 @@
 -- The effects of trees in a row. Assumes nothing.
 use mathlib.Core.Path.{_≡_, refl, sym}
 use mathlib.Core.Bool.{Bool, true, false, _||_}
-use Rattle.records.specs.Tree.{Tree, Trees, none, more, joined}
+use Rattle.records.specs.Tree.{Trees, none, more, joined}
 use Rattle.walk.specs.Effect.{mayHaveSideEffects, anyHasSideEffects}
 
 pub or-assoc : (a b c : Bool) → ((a || b) || c) ≡ (a || (b || c))

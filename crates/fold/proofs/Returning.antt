@@ -1,17 +1,16 @@
 -- What the fold returns and writes, from what its parts did.
 use Prim.Native.Nat.{ℕ, _+_, _*_, _≤_, _<_}
 use native.Mathlib.Omega.{arith}
-use mathlib.Core.Bool.{true, false, cond}
-use mathlib.Core.List.{List, _++_}
+use mathlib.Core.List.{List}
 use mathlib.Core.Path.{_≡_, refl, sym, ap, _∙_, subst}
-use lib.ListN.{length, drop}
+use lib.ListN.{length}
 use borrow.Author.Tests.{leb-true, ltb-false, ne-eqb}
 use Rattle.records.specs.Limits.{maxNodes, maxDeclarators, maxStatements}
 use Rattle.records.specs.Record.{headerOf}
 use Rattle.records.specs.File.{File, headerFor, fileLength, read, print}
 use Rattle.records.specs.Refusal.{refusal, roomWanted}
 use Rattle.records.specs.declared.layout.Header.{Header}
-use Rattle.statements.specs.Fold.{withStatements, foldedFile, foldFile, Returned, refused, accepted, foldBytes}
+use Rattle.statements.specs.Fold.{withStatements, foldedFile, foldFile, refused, accepted, foldBytes}
 use Rattle.roundtrip.proofs.Accepted.{Accepted as Passed, accepted as rows-passed, has-length}
 use Rattle.roundtrip.proofs.PrintedFile.{printed-length}
 use Rattle.acceptance.proofs.Limits.{Lower, Within, limits-parts}
@@ -20,12 +19,11 @@ use Rattle.acceptance.proofs.Laws.{returned, length-most, result-is}
 use Rattle.result.specs.declared.header.Counts.{Counts}
 use Rattle.result.specs.Header.{Countable, resultHeader}
 use Rattle.result.specs.Result.{Hold, SameFacts, Stated, PutsResult}
-use Rattle.fold.specs.declared.Folded.{Folded}
 use Rattle.fold.specs.declared.Folded.the-variants.{Refused, Written}
 use Rattle.folding.specs.declared.in_order.Totals.{Totals}
 use Rattle.folding.specs.State.{mostNodes}
 use Rattle.folding.specs.Folds.{FoldsFile}
-use Rattle.fold.specs.Answer.{Numbers, numbers, numbersOf, laidOver}
+use Rattle.fold.specs.Answer.{numbers, numbersOf, laidOver}
 
 -- A file that is refused.
 pub returns-refused : (bytes : List ℕ) (room number : ℕ) (output : List ℕ) → number ≡ refusal bytes room → 0 < number → (numbers (Refused number) ≡ numbersOf (foldBytes bytes room)) × (output ≡ laidOver (foldBytes bytes room) output)

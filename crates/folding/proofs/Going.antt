@@ -6,7 +6,7 @@ use Prim.Native.Nat.{ℕ, _+_, _-_, _*_, _≤_, _<_}
 use native.Mathlib.Omega.{arith}
 use lib.ListN.{length, length-append}
 use Rattle.records.specs.Record.{declaratorAt}
-use Rattle.records.specs.Tree.{Trees, more}
+use Rattle.records.specs.Tree.{Trees}
 use Rattle.records.specs.File.{DeclarationKind, Var, bare, Declarator, Statement, initializerTrees, declaratorRecords, declaratorsStart}
 use Rattle.records.specs.declared.layout.Header.{Header}
 use Rattle.records.specs.declared.layout.NodeRecord.{NodeRecord}

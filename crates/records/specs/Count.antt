@@ -1,6 +1,6 @@
 -- Row 10 of the refusal table: reads and targets of a name against the counts of its facts.
 use Prim.Native.Nat.{ℕ, _+_}
-use mathlib.Core.Bool.{Bool, true, false, cond, _&&_, _||_, not}
+use mathlib.Core.Bool.{Bool, cond, _&&_, _||_, not}
 use mathlib.Core.List.{List}
 use lib.Dec.{eqb, leb}
 use Rattle.records.specs.Limits.{noNumber}

@@ -2,12 +2,12 @@
 use Prim.Native.Nat.{ℕ, _+_, _*_}
 use mathlib.Core.Bool.{Bool, cond}
 use mathlib.Core.List.{List, [], _∷_, _++_}
-use lib.ListN.{length, getD, take, drop}
+use lib.ListN.{length, take, drop}
 use lib.Dec.{eqb}
-use Rattle.records.specs.Limits.{noNumber, headerLength, nameLength, scopeLength, frameLength, nodeLength, declaratorLength, statementLength}
+use Rattle.records.specs.Limits.{headerLength, nameLength, scopeLength, frameLength, nodeLength, declaratorLength, statementLength}
 use Rattle.records.specs.Records.{recordsFrom, bytesOf}
 use Rattle.records.specs.Record.{headerOf, headerBytes, nameAt, nameBytes, scopeAt, scopeBytes, frameAt, frameBytes, nodeAt, nodeBytes, declaratorAt, declaratorBytes, statementAt, statementBytes}
-use Rattle.records.specs.Tree.{Node, Tree, Trees, node, none, more, count, sizes, joined, firsts, others, preorders, rowOf}
+use Rattle.records.specs.Tree.{Tree, Trees, node, none, more, sizes, others, preorders, rowOf}
 use Rattle.records.specs.declared.layout.Header.{Header}
 use Rattle.records.specs.declared.layout.NameFacts.{NameFacts}
 use Rattle.records.specs.declared.layout.Scope.{Scope}

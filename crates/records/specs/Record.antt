@@ -1,7 +1,7 @@
 -- The header and the six kinds of record of document 01's "File" to "Declarators and statements": where each field
 -- stands, and the bytes of each.
 use Prim.Native.Nat.{ℕ, _+_}
-use mathlib.Core.List.{List, [], _∷_, _++_}
+use mathlib.Core.List.{List, _∷_, _++_}
 use lib.ListN.{getD}
 use Rattle.records.specs.Bytes.{u16At, u32At, u16Bytes, u32Bytes}
 use Rattle.records.specs.declared.layout.Header.{Header}

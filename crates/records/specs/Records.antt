@@ -1,6 +1,6 @@
 -- Records that stand one after the other, and tests of all of them.
 use Prim.Native.Nat.{ℕ, zero, suc, _+_}
-use mathlib.Core.Bool.{Bool, true, false, _&&_}
+use mathlib.Core.Bool.{Bool, true, _&&_}
 use mathlib.Core.List.{List, [], _∷_, _++_}
 
 -- n records of len bytes each, the first of which begins at `at`

@@ -1,6 +1,6 @@
 -- Trees of nodes, and the preorder of records that they stand in.
 use Prim.Native.Nat.{ℕ, zero, suc, _+_}
-use mathlib.Core.Bool.{Bool, true, false, _&&_}
+use mathlib.Core.Bool.{Bool, true, _&&_}
 use mathlib.Core.List.{List, [], _∷_}
 use lib.Dec.{leb}
 use Rattle.records.specs.declared.layout.NodeRecord.{NodeRecord}

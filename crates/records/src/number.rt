@@ -1,7 +1,7 @@
 // Little-endian numbers.
 ghost use mathlib.Core.Path.{_≡_};
 ghost use Prim.Native.Nat.{_+_, _*_, _≤_, _<_};
-ghost use lib.ListN.{length, getD};
+ghost use lib.ListN.{length};
 ghost use Rattle.records.specs.Bytes.{u16At, u32At};
 ghost use Rattle.records.specs.File.{one as oneOf};
 

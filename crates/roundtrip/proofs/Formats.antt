@@ -1,6 +1,6 @@
--- Numbers, the six kinds of record and the header, each read from its bytes and printed to them. The laws of `Series`
+-- The six kinds of record and the header, each read from its bytes and printed to them. The laws of `Series`
 -- say so where they stand: `read-one-in node-reads pre n rest` is that `nodeAt (pre ++ (nodeBytes n ++ rest)) (length pre)`
--- is n, and `print-one-in node-reads node-prints` the other way round. Assumes nothing.
+-- is n, and `print-one node-reads node-prints` the other way round. Assumes nothing.
 use mathlib.Core.Path.{_≡_, refl, sym, ap, _∙_}
 use mathlib.Core.List.{List, _∷_, _++_}
 use Prim.Native.Nat.{ℕ, zero, suc, _+_, _≤_}
@@ -8,7 +8,7 @@ use native.Mathlib.Nat.{add-zero, add-suc, suc-add}
 use native.Mathlib.Omega.{arith}
 use lib.ListN.{length, getD, drop}
 use lib.Seq.{drop-cons, getD-drop}
-use Rattle.records.specs.Bytes.{u16At, u32At, u16Bytes, u32Bytes, Bytes}
+use Rattle.records.specs.Bytes.{u16At, u32At, Bytes}
 use Rattle.records.specs.Limits.{headerLength, nameLength, scopeLength, frameLength, nodeLength, declaratorLength, statementLength}
 use Rattle.records.specs.Record.{headerOf, headerBytes, nameAt, nameBytes, scopeAt, scopeBytes, frameAt, frameBytes, nodeAt, nodeBytes, declaratorAt, declaratorBytes, statementAt, statementBytes}
 use Rattle.records.specs.declared.layout.Header.{Header}
@@ -31,21 +31,6 @@ listed-drop bs (suc n) i h =
 ruleset onward-rules = (u16-drop, u32-drop, getD-drop, add-zero)
 
 ruleset whole-rules = (u16-whole, u32-whole)
-
--- A number of two bytes; of four.
-pub u16-reads : Reads u16At u16Bytes 2
-u16-reads = record { measured = λ x. refl; onward = λ bs at. simp onward-rules; back = λ x rest. unfold u16At in simp whole-rules }
-
-pub u16-prints : Prints u16At u16Bytes 2
-unfolding listed
-u16-prints = record { again = λ bs b h. (λ k. u16-again bs b 0 k ++ drop 2 bs) ∙ listed-drop bs 2 0 h }
-
-pub u32-reads : Reads u32At u32Bytes 4
-u32-reads = record { measured = λ x. refl; onward = λ bs at. simp onward-rules; back = λ x rest. unfold u16At u32At in simp whole-rules }
-
-pub u32-prints : Prints u32At u32Bytes 4
-unfolding listed
-u32-prints = record { again = λ bs b h. (λ k. u32-again bs b 0 k ++ drop 4 bs) ∙ listed-drop bs 4 0 h }
 
 -- Name facts.
 pub name-reads : Reads nameAt nameBytes nameLength

@@ -11,7 +11,7 @@ use Rattle.records.specs.Records.{every}
 use Rattle.records.specs.Tree.{Tree, Trees, node, none, more, count, size, sizes, joined, firsts, others, recordOf, nodeOf, preorder, preorders, grown, rowOf, closed}
 use Rattle.records.specs.declared.layout.NodeRecord.{NodeRecord}
 use Rattle.records.proofs.Tests.{both, every-cons, every-parts}
-use Rattle.roundtrip.proofs.Rows.{count-joined, joined-none, firsts-joined, others-joined, firsts-within, others-within, joined-cut, count-firsts, sizes-cut}
+use Rattle.roundtrip.proofs.Rows.{count-joined, joined-none, firsts-joined, others-joined, joined-cut, count-firsts, sizes-cut}
 
 -- the records of two rows joined
 pub preorders-joined : (ts us : Trees) (rest : List NodeRecord) → preorders (joined ts us) rest ≡ preorders ts (preorders us rest)
@@ -98,14 +98,6 @@ sizes-rowOf (r ∷ rs) = omega (arith, sizes-rowOf rs, sizes-cut (r .children) (
 closed-parts : (r : NodeRecord) (rs : List NodeRecord) → closed (r ∷ rs) ≡ true → (r .children ≤ count (rowOf rs)) × (closed rs ≡ true)
 unfolding closed
 closed-parts r rs c = let p = both (leb (r .children) (count (rowOf rs))) (closed rs) c in (leb-true (r .children) (count (rowOf rs)) (p .0), p .1)
-
--- the row of closed records before others
-pub rowOf-append : (rs qs : List NodeRecord) → closed rs ≡ true → rowOf (rs ++ qs) ≡ joined (rowOf rs) (rowOf qs)
-unfolding rowOf grown joined
-rowOf-append [] qs c = refl
-rowOf-append (r ∷ rs) qs c =
-    let p = closed-parts r rs c in
-    rw (rowOf-append rs qs (p .1), firsts-within (r .children) (rowOf rs) (rowOf qs) (p .0), others-within (r .children) (rowOf rs) (rowOf qs) (p .0))
 
 -- a record whose zero field is zero, from its node
 record-again : (r : NodeRecord) (children : ℕ) → children ≡ r .children → r .zero ≡ 0 → recordOf (nodeOf r) children ≡ r

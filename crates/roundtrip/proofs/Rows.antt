@@ -47,20 +47,6 @@ unfolding count joined others
 others-joined none us = refl
 others-joined (more t ts) us = others-joined ts us
 
--- a cut within the first of two rows: before it
-pub firsts-within : (k : ℕ) (ts us : Trees) → k ≤ count ts → firsts k (joined ts us) ≡ firsts k ts
-unfolding count joined firsts
-firsts-within zero ts us h = refl
-firsts-within (suc k) none us h = absurd (omega arith)
-firsts-within (suc k) (more t ts) us h = ap (more t) (firsts-within k ts us (omega arith))
-
--- and behind it
-pub others-within : (k : ℕ) (ts us : Trees) → k ≤ count ts → others k (joined ts us) ≡ joined (others k ts) us
-unfolding count joined others
-others-within zero ts us h = refl
-others-within (suc k) none us h = absurd (omega arith)
-others-within (suc k) (more t ts) us h = others-within k ts us (omega arith)
-
 -- a row cut in two, and joined again
 pub joined-cut : (k : ℕ) (ts : Trees) → joined (firsts k ts) (others k ts) ≡ ts
 unfolding joined firsts others

@@ -4,7 +4,7 @@ use mathlib.Core.List.{List, [], _∷_, _++_, append-assoc}
 use Prim.Native.Nat.{ℕ, zero, suc, _+_, _*_, _≤_}
 use native.Mathlib.Nat.{zero-add, add-zero, suc-add, mul-zero}
 use native.Mathlib.Omega.{arith}
-use lib.ListN.{length, take, drop, length-append, length-drop, take-append-drop}
+use lib.ListN.{length, drop, length-append, length-drop}
 use lib.Seq.{drop-drop, drop-at, drop-append-seam}
 use Rattle.records.specs.Bytes.{Bytes}
 use Rattle.records.specs.Records.{recordsFrom, bytesOf}
@@ -68,10 +68,6 @@ module _ {A : Type 0} {readAt : List ℕ → ℕ → A} {bytes : A → List ℕ}
   pub read-one-in : (pre : List ℕ) (x : A) (rest : List ℕ) → readAt (pre ++ (bytes x ++ rest)) (length pre) ≡ x
   read-one-in pre x rest = read-one (pre ++ (bytes x ++ rest)) (length pre) rest x (drop-append-seam pre (bytes x ++ rest))
 
-  -- and so are records one after the other
-  pub read-all-in : (pre : List ℕ) (xs : List A) (rest : List ℕ) → recordsFrom (readAt (pre ++ (bytesOf bytes xs ++ rest))) len (length xs) (length pre) ≡ xs
-  read-all-in pre xs rest = read-all (pre ++ (bytesOf bytes xs ++ rest)) (length pre) rest xs (length xs) refl (drop-append-seam pre (bytesOf bytes xs ++ rest))
-
   module _ (p : Prints readAt bytes len) (bs : List ℕ) (small : Bytes bs) where
     -- the bytes of a record that is read are those that stand there
     pub print-one : (at : ℕ) → at + len ≤ length bs → bytes (readAt bs at) ++ drop (at + len) bs ≡ drop at bs
@@ -84,14 +80,6 @@ module _ {A : Type 0} {readAt : List ℕ → ℕ → A} {bytes : A → List ℕ}
     print-all (suc n) at h =
         let onward = print-all n (at + len) (omega (arith, next-place at len n)) in
         rw (next-place at len n, append-assoc, onward) (print-one at (omega (arith, next-place at len n)))
-
-    -- so a list of bytes is what stands before a record, the record, and what stands behind it
-    pub print-one-in : (at : ℕ) → at + len ≤ length bs → take at bs ++ (bytes (readAt bs at) ++ drop (at + len) bs) ≡ bs
-    print-one-in at h = ap (λ (l : List ℕ). take at bs ++ l) (print-one at h) ∙ take-append-drop at bs
-
-    -- or what stands before n records, the records, and what stands behind them
-    pub print-all-in : (n at : ℕ) → at + len * n ≤ length bs → take at bs ++ (bytesOf bytes (recordsFrom (readAt bs) len n at) ++ drop (at + len * n) bs) ≡ bs
-    print-all-in n at h = ap (λ (l : List ℕ). take at bs ++ l) (print-all n at h) ∙ take-append-drop at bs
 
 -- n records and k more behind them
 pub recordsFrom-add : {A : Type 0} (readAt : ℕ → A) (len n k at : ℕ) → recordsFrom readAt len (n + k) at ≡ recordsFrom readAt len n at ++ recordsFrom readAt len k (at + len * n)

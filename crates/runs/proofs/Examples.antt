@@ -1,23 +1,23 @@
 -- Small scripts, run by computation: the order that document 01 and ECMA-262 state. Assumes nothing.
 use Prim.Native.Nat.{ℕ, _+_}
 use native.Mathlib.Omega.{arith}
-use mathlib.Core.Bool.{Bool, true, false, cond, not, _&&_, _||_}
+use mathlib.Core.Bool.{Bool, false, cond, not}
 use mathlib.Core.List.{List, [], _∷_}
 use mathlib.Core.Path.{_≡_, refl, sym, ap, _∙_}
 use lib.Dec.{eqb}
 use Rattle.records.specs.Limits.{noNumber}
 use Rattle.records.specs.Script.{flagsOf}
-use Rattle.records.specs.Tree.{Node, Tree, Trees, node, none, more}
-use Rattle.records.specs.File.{DeclarationKind, Var, Let, Const, Using, Initializer, bare, given, Declarator, Statement, declaration, expression, other}
+use Rattle.records.specs.Tree.{Tree, Trees, node, none, more}
+use Rattle.records.specs.File.{Var, Let, Const, Using, bare, given, Statement, declaration, expression, other}
 use Rattle.records.specs.declared.layout.NameFacts.{NameFacts}
 use Rattle.runs.specs.Store.{Store, set}
-use Rattle.runs.specs.Hand.{Key, static, private, computed, Beside, nothing, bareEval, targetName as aTarget, opaqueTarget, member, Given, only, firstOr, lastOr}
-use Rattle.runs.specs.Step.{Role, value, target, deleted, Origin, ofNode, ofDeclarator, ofOther, Step}
-use Rattle.runs.specs.Meaning.{Act, done, stops, Meaning}
+use Rattle.runs.specs.Hand.{static, computed, Beside, nothing, bareEval, targetName as aTarget, opaqueTarget, member, Given, only, firstOr, lastOr}
+use Rattle.runs.specs.Step.{value, target, deleted, Origin, ofNode, ofDeclarator, ofOther, Step}
+use Rattle.runs.specs.Meaning.{done, stops, Meaning}
 use Rattle.runs.specs.Form.{cleared, isMarked, isMember, isDelete, form, order, childless, isName, isChain, isPlain, isAssignment, choiceOf, firstRole, originOf}
 use Rattle.runs.specs.State.{bind}
 use Rattle.runs.specs.Run.{takes, then, isRead, kept, listed, acted, caught, gathered, chosen, inTurn, stepped, queued, held, goesOn, own, beside, finished, runNode, run}
-use Rattle.runs.specs.Script.{sets, binds, declaresBare, declaresWith, runDeclarator, runDeclarators, gives, runStatement, runStatements, End, stopped, ended, Ran, whole, ran, begin}
+use Rattle.runs.specs.Script.{sets, binds, declaresBare, declaresWith, runDeclarator, runDeclarators, gives, runStatement, runStatements, stopped, ended, Ran, whole, ran, begin}
 
 -- Trees: a node by its kind, flags, label and children.
 abbrev nd : ℕ → ℕ → ℕ → Trees → Tree

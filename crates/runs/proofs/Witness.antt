@@ -2,7 +2,7 @@
 -- which all facts are true. The fold brings a call into `o.x = v`, while another call of the same kind, label and flags does
 -- change what `o.x` gives. Assumes nothing.
 use Prim.Native.Nat.{ℕ, _+_}
-use mathlib.Core.Bool.{Bool, true, false, cond, not, _&&_, _||_, false≢true}
+use mathlib.Core.Bool.{Bool, true, false, cond, _&&_, _||_, false≢true}
 use mathlib.Core.List.{List, [], _∷_}
 use mathlib.Core.Path.{_≡_, refl, sym, ap, subst, _∙_}
 use lib.Dec.{eqb}
@@ -15,11 +15,11 @@ use Rattle.records.specs.Header.{notAScript, otherVersion, outsideLimits, other
 use Rattle.records.specs.Facts.{goodName, goodScope, goodFrame, badFacts}
 use Rattle.records.specs.Script.{flagsOf, goodDeclaratorOf, goodDeclarator, goodStatement, declaratorSum, badScript, declares, declaredTwice}
 use Rattle.records.specs.Node.{fewest, most, goodChildren, goodFlags, mayMark, goodNodeOf, goodNode, badNodes}
-use Rattle.records.specs.Tree.{Node, Tree, Trees, node, none, more, count, size, firsts, others, recordOf, preorder, nodeOf, grown, rowOf, closed}
+use Rattle.records.specs.Tree.{Tree, Trees, node, none, more, count, size, firsts, others, recordOf, preorder, nodeOf, grown, rowOf, closed}
 use Rattle.records.specs.Place.{isExpression, mayStand, loose, mayBeLoose, standUnder, placed, rootsStand, expressions, badTrees}
 use Rattle.records.specs.Count.{targetName, firstTarget, nameRead, usesIn, goodCounts, badCounts}
 use Rattle.records.specs.Refusal.{roomWanted, refusal}
-use Rattle.records.specs.File.{namesOf, scopesOf, framesOf, nodesOf, declaratorsOf, statementsOf, DeclarationKind, Const, Initializer, given, Declarator, Statement, declaration, expression, File, firstTree, initializers, isGiven, declaratorRecords, kindNumber, declaratorsIn, statementNumber, statementRecord, statementRecords, allDeclarators, initializerTree, initializerTrees, statementTrees, allTrees, headerFor, print}
+use Rattle.records.specs.File.{namesOf, scopesOf, framesOf, nodesOf, declaratorsOf, statementsOf, Const, given, Statement, declaration, expression, File, firstTree, initializers, isGiven, declaratorRecords, kindNumber, declaratorsIn, statementNumber, statementRecord, statementRecords, allDeclarators, initializerTree, initializerTrees, statementTrees, allTrees, headerFor, print}
 use Rattle.records.specs.declared.layout.NameFacts.{NameFacts}
 use Rattle.runs.specs.Store.{Store, set}
 use Rattle.runs.specs.Hand.{static, member, Given, only, firstOr, lastOr}
@@ -28,12 +28,12 @@ use Rattle.runs.specs.Meaning.{Act, done, stops, Meaning}
 use Rattle.runs.specs.Form.{cleared, isMarked, isMember, isDelete, form, order, childless, isName, isChain, isPlain, isAssignment, choiceOf, firstRole, originOf}
 use Rattle.runs.specs.State.{State, Out, gave, cut, stop, bind}
 use Rattle.runs.specs.Run.{takes, then, isRead, kept, listed, acted, caught, gathered, chosen, inTurn, stepped, queued, held, goesOn, own, beside, finished, runNode, run}
-use Rattle.runs.specs.Script.{sets, binds, declaresBare, declaresWith, runDeclarator, runDeclarators, gives, runStatement, runStatements, End, stopped, ended, Ran, whole, ran, begin, runFile}
+use Rattle.runs.specs.Script.{sets, binds, declaresBare, declaresWith, runDeclarator, runDeclarators, gives, runStatement, runStatements, Ran, whole, ran, begin, runFile}
 use Rattle.runs.specs.Shapes.{someIn, declaredIn, shapeP, firstDeclared, shapeQ, evalWhole, someEval, shapeR, shapeS}
 use Rattle.walk.specs.Context.{contextOf, factsOf}
 use Rattle.walk.specs.Unsettled.{scopeOf, climb, readCrossesFunctionBoundary}
-use Rattle.runs.specs.Demand.{folded, SameEnd, both-ended, SameRun}
-use Rattle.runs.specs.Facts.{isTargetOf, aims, throughBy, through, isOfNode, AgreeBut, ActsAlike, both-done, both-stop, FoldKeeps, Facts}
+use Rattle.runs.specs.Demand.{folded, both-ended, SameRun}
+use Rattle.runs.specs.Facts.{isTargetOf, aims, throughBy, through, AgreeBut, ActsAlike, both-done, both-stop, FoldKeeps, Facts}
 use Rattle.statements.specs.Trace.{Fold}
 
 -- The file: `const v = f(); o.x = v; g();`. Names: 0 v, 1 f, 2 g, 3 o.

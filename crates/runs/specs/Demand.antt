@@ -1,7 +1,7 @@
 -- Demand 3: "one claim on two whole runs, of the file and of the returned result read as a file, with the same starting
 -- store and meaning".
 use Prim.Native.Nat.{ℕ}
-use mathlib.Core.Bool.{Bool, true, false, _&&_, not}
+use mathlib.Core.Bool.{Bool, false, _&&_, not}
 use mathlib.Core.List.{List}
 use mathlib.Core.Path.{_≡_}
 use Rattle.records.specs.Bytes.{Bytes}

@@ -1,22 +1,22 @@
 -- The facts that are true of a meaning: document 01's "Facts are true of a meaning when ..", and what it says of settled
 -- names and of `this`.
 use Prim.Native.Nat.{ℕ}
-use mathlib.Core.Bool.{Bool, true, false, cond, _&&_, _||_, not}
+use mathlib.Core.Bool.{Bool, true, false, _&&_, _||_, not}
 use mathlib.Core.List.{List, [], _∷_}
 use mathlib.Core.Path.{_≡_}
 use lib.Dec.{eqb, leb}
 use Rattle.records.specs.Flags.{recorded, marked}
-use Rattle.records.specs.Tree.{Node, Tree, Trees, node, none, more}
+use Rattle.records.specs.Tree.{Tree, Trees, node, none, more}
 use Rattle.records.specs.Place.{root}
 use Rattle.records.specs.Count.{readsOf, targetsOf}
 use Rattle.records.specs.File.{File, allTrees}
 use Rattle.records.specs.declared.layout.NameFacts.{NameFacts}
 use Rattle.runs.specs.Store.{Store}
 use Rattle.runs.specs.Hand.{Beside, nothing, bareEval, targetName, opaqueTarget, member, Given, Hand}
-use Rattle.runs.specs.Step.{Role, value, target, Origin, ofNode, ofDeclarator, ofOther, Step}
+use Rattle.runs.specs.Step.{value, target, Origin, ofNode, ofDeclarator, ofOther, Step}
 use Rattle.runs.specs.Meaning.{Act, done, stops, Meaning}
 use Rattle.runs.specs.Form.{Form, form, cleared, isPlain}
-use Rattle.runs.specs.State.{State, Out, gave}
+use Rattle.runs.specs.State.{State, gave}
 use Rattle.runs.specs.Run.{run}
 use Rattle.runs.specs.Script.{runStatements, begin}
 use Rattle.runs.specs.Settled.{factsOf, settled, thisBlocks}

@@ -10,7 +10,7 @@ use Rattle.runs.specs.Hand.{static, private, computed, Beside, nothing, 
 use Rattle.runs.specs.Step.{Role, value, target, deleted, Step}
 use Rattle.runs.specs.Meaning.{Act, done, stops, Meaning}
 use Rattle.runs.specs.Form.{is, cleared, isMarked, isDelete, Choice, never, logical, conditional, optionally, Form, constant, name, targetName, leaf, chain, property, importing, sequence, assignment, stepping, form, childless, isName, isChain, isAssignment, choiceOf, firstRole, originOf}
-use Rattle.runs.specs.State.{Log, State, Out, gave, cut, stop, Part, bind}
+use Rattle.runs.specs.State.{Log, Out, gave, cut, stop, Part, bind}
 
 -- Which of the children behind the first run: all; none; the second child; the third.
 pub data Turn : Type 0 where

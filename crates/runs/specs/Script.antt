@@ -1,6 +1,6 @@
 -- The run of declarators, of statements and of a file.
 use Prim.Native.Nat.{ℕ}
-use mathlib.Core.Bool.{Bool, true, false, cond}
+use mathlib.Core.Bool.{Bool, true, cond}
 use mathlib.Core.List.{List, [], _∷_, reverse}
 use lib.Dec.{eqb}
 use Rattle.records.specs.Limits.{noNumber}
@@ -8,7 +8,7 @@ use Rattle.records.specs.File.{DeclarationKind, Var, Let, Const, Using, AwaitUs
 use Rattle.records.specs.declared.layout.NameFacts.{NameFacts}
 use Rattle.runs.specs.Store.{Store, set}
 use Rattle.runs.specs.Hand.{Hand, only}
-use Rattle.runs.specs.Step.{Role, value, Origin, ofDeclarator, ofOther, Step}
+use Rattle.runs.specs.Step.{value, ofDeclarator, ofOther, Step}
 use Rattle.runs.specs.Meaning.{Meaning}
 use Rattle.runs.specs.State.{Log, State, Out, gave, cut, stop, Part, bind}
 use Rattle.runs.specs.Run.{stepped, run}

@@ -1,6 +1,6 @@
 -- The four shapes at which "Rust and ECMA-262 part", each as a test of a file.
 use Prim.Native.Nat.{ℕ}
-use mathlib.Core.Bool.{Bool, true, false, cond, _&&_, _||_, not}
+use mathlib.Core.Bool.{Bool, false, _&&_, _||_}
 use mathlib.Core.List.{List, [], _∷_}
 use lib.Dec.{eqb, leb}
 use Rattle.records.specs.Flags.{isEval}

@@ -1,7 +1,7 @@
 -- The loop over the declarators: what is left to search, and that the rules say the same of it.
-use Prim.Native.Nat.{ℕ, suc, _+_, _*_, _-_, _≤_, _<_}
+use Prim.Native.Nat.{ℕ, _+_, _*_, _-_, _≤_, _<_}
 use native.Mathlib.Omega.{arith}
-use mathlib.Core.Bool.{Bool, true, false, cond, _&&_}
+use mathlib.Core.Bool.{Bool, true, false, _&&_}
 use mathlib.Core.List.{List, [], _∷_, _++_, append-assoc}
 use mathlib.Core.Path.{_≡_, refl, sym, ap, _∙_, subst}
 use lib.ListN.{length, getD, length-append}
@@ -14,14 +14,14 @@ use Rattle.table.specs.Laid.{laid}
 use Rattle.table.proofs.Laid.{laid-length, laid-split}
 use Rattle.walk.specs.Context.{Context}
 use Rattle.plans.specs.Search.{bareNames}
-use Rattle.statements.specs.Declarators.{Searched as SearchedRule, FromDeclarators, fromDeclarator, substituteFromDeclarators, ended}
-use Rattle.statements.specs.Trace.{Traced, pure}
+use Rattle.statements.specs.Declarators.{FromDeclarators, substituteFromDeclarators}
+use Rattle.statements.specs.Trace.{pure}
 use Rattle.search.specs.declared.declarator.Tried.{Tried}
 use Rattle.search.specs.declared.from_declarators.Searched.{Searched}
 use Rattle.search.specs.Kept.{laidInitializer, nodesOf, bareInitializer, laidDeclarators, nodesIn, bareDeclarators, Held}
 use Rattle.search.specs.Step.{Step, stepFrom}
 use Rattle.search.specs.FromDeclarators.{Standing, StandingRow, CanTry, Stepped, StepLeaves, Tries, CanSearch, Found, SearchesFrom}
-use Rattle.search.proofs.Steps.{Ends, Folds, step-ends, step-folds, step-size, kept-step-size}
+use Rattle.search.proofs.Steps.{Folds, step-ends, step-folds, step-size, kept-step-size}
 
 -- The trees of declarators, and the bytes behind them.
 initializer-split : (i : Initializer) (x : List ℕ) → laidInitializer i x ≡ laidInitializer i [] ++ x

@@ -2,8 +2,8 @@
 use Prim.Native.Nat.{ℕ, suc, _+_, _≤_}
 use native.Mathlib.Omega.{arith}
 use mathlib.Core.Bool.{Bool, true, false, cond}
-use mathlib.Core.List.{List, [], _∷_}
-use mathlib.Core.Path.{_≡_, refl, sym, ap, _∙_}
+use mathlib.Core.List.{List, _∷_}
+use mathlib.Core.Path.{_≡_, refl}
 use lib.ListN.{length}
 use Rattle.records.specs.Tree.{Tree, size}
 use Rattle.records.specs.File.{DeclarationKind, Initializer, bare, given, Declarator, Statement}
@@ -12,10 +12,10 @@ use Rattle.walk.specs.Context.{Context}
 use Rattle.walk.specs.Substitute.{Answer, replaced, stopped, passed, substituteInExpression}
 use Rattle.walk.specs.Looks.{looksInExpression}
 use Rattle.walk.proofs.Sizes.{Sized, sized}
-use Rattle.statements.specs.Trace.{Fold, Traced, pure, looked, folded}
-use Rattle.statements.specs.Declarators.{endsSearch, Searched, ended, FromDeclarators, foldOf, afterAnswer, fromDeclarator, substituteFromDeclarators}
+use Rattle.statements.specs.Trace.{pure, looked, folded}
+use Rattle.statements.specs.Declarators.{endsSearch, ended, FromDeclarators, afterAnswer, fromDeclarator}
 use Rattle.search.specs.Kept.{nodesOf}
-use Rattle.search.specs.Step.{Step, byAnswer, stepFrom}
+use Rattle.search.specs.Step.{byAnswer, stepFrom}
 
 -- the search ends at a declarator
 pub record Ends (d : Declarator) (earlier : List Declarator) (w : FromDeclarators) (t : Tree) : Type 0 where

@@ -1,19 +1,19 @@
 -- The search from one declarator, from what the code did.
 use Prim.Native.Nat.{ℕ, _+_, _*_, _≤_}
 use native.Mathlib.Omega.{arith}
-use mathlib.Core.Bool.{Bool, true, false, cond, _&&_}
-use mathlib.Core.List.{List, [], _∷_, _++_, append-assoc}
+use mathlib.Core.Bool.{Bool, true, false}
+use mathlib.Core.List.{List, [], _++_, append-assoc}
 use mathlib.Core.Path.{_≡_, refl, sym, ap, _∙_, subst}
 use lib.ListN.{length, length-append}
 use lib.Dec.{eqb}
-use Rattle.records.specs.Tree.{Tree, Trees, node, none, more, count, size, sizes}
+use Rattle.records.specs.Tree.{Tree, Trees, none, more, size, sizes}
 use Rattle.records.specs.File.{Initializer, bare, given, isGiven}
 use Rattle.records.specs.declared.layout.DeclaratorRecord.{DeclaratorRecord}
 use Rattle.records.specs.declared.layout.NodeRecord.{NodeRecord}
 use Rattle.records.proofs.Tests.{both, clash}
 use Rattle.table.specs.Table.{workBytes}
 use Rattle.table.specs.Laid.{laid, laids, At, TreeAt, Stands}
-use Rattle.table.proofs.Laid.{laid-length, laid-split, laids-length, work-length, room-node}
+use Rattle.table.proofs.Laid.{laid-length, laid-split, laids-length, work-length}
 use Rattle.walk.specs.Context.{Context}
 use Rattle.walk.specs.Substitute.{Answer as RuleAnswer, replaced, stopped, passed, inOrder, substituteInExpression}
 use Rattle.statements.specs.Declarators.{endsSearch}
@@ -21,14 +21,14 @@ use Rattle.plans.specs.declared.sought.Sought.{Sought}
 use Rattle.plans.specs.declared.walked.Answer.{Answer}
 use Rattle.plans.specs.declared.walked.Walked.{Walked}
 use Rattle.plans.specs.Answers.{isReplaced}
-use Rattle.plans.specs.Described.{Describes, Known}
+use Rattle.plans.specs.Described.{Describes}
 use Rattle.plans.specs.Search.{bareNames, Searchable, Did, passes, stops, replaces, Found, alone, placed, Searches}
 use Rattle.splice.specs.Splice.{Before, HoldsName, substituted, After, Splices}
 use Rattle.declarators.proofs.BareNames.{Bare, bare-answer}
 use Rattle.search.specs.declared.declarator.Tried.{Tried}
 use Rattle.search.specs.Kept.{laidInitializer, nodesOf, bareInitializer}
 use Rattle.search.specs.Step.{Step, byAnswer, stepFrom}
-use Rattle.search.specs.FromDeclarators.{Standing, CanTry, StepLeaves, Stepped, Tries}
+use Rattle.search.specs.FromDeclarators.{Standing, CanTry, Stepped, Tries}
 
 none-given : isGiven bare ≡ 0
 unfolding isGiven

@@ -1,7 +1,7 @@
 -- What the search from declarators does in the work table.
 use Prim.Native.Nat.{ℕ, _+_, _*_, _≤_}
-use mathlib.Core.Bool.{Bool, true, false, cond, _&&_}
-use mathlib.Core.List.{List, [], _∷_, _++_}
+use mathlib.Core.Bool.{Bool, true, cond, _&&_}
+use mathlib.Core.List.{List, _++_}
 use mathlib.Core.Path.{_≡_}
 use lib.ListN.{length}
 use Rattle.records.specs.Tree.{Tree, size}
@@ -10,7 +10,6 @@ use Rattle.records.specs.declared.layout.DeclaratorRecord.{DeclaratorRecord}
 use Rattle.table.specs.Laid.{laid}
 use Rattle.walk.specs.Context.{Context}
 use Rattle.plans.specs.Search.{bareNames}
-use Rattle.statements.specs.Trace.{Traced}
 use Rattle.statements.specs.Declarators.{substituteFromDeclarators}
 use Rattle.search.specs.declared.declarator.Tried.{Tried}
 use Rattle.search.specs.declared.from_declarators.Searched.{Searched}

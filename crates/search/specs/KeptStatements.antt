@@ -1,5 +1,5 @@
 -- Statements that are kept, the last first: their trees in the work table, one after the other, and their records.
-use Prim.Native.Nat.{ℕ, _+_, _*_, _≤_}
+use Prim.Native.Nat.{ℕ, _+_, _*_}
 use mathlib.Core.Bool.{Bool, true, _&&_}
 use mathlib.Core.List.{List, [], _∷_, reverse}
 use mathlib.Core.Path.{_≡_}
@@ -9,7 +9,6 @@ use Rattle.records.specs.Tree.{Tree, size}
 use Rattle.records.specs.File.{Statement, declaration, expression, other, declaratorsIn, statementRecord}
 use Rattle.table.specs.Laid.{laid}
 use Rattle.plans.specs.Search.{bareNames}
-use Rattle.walk.specs.Context.{Context}
 use Rattle.statements.specs.Statements.{Kept}
 use Rattle.search.specs.Kept.{laidDeclarators, nodesIn, bareDeclarators, Held}
 

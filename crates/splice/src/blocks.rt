@@ -1,5 +1,4 @@
 // Records written in the work table.
-ghost use mathlib.Core.Path.{_≡_};
 ghost use Prim.Native.Nat.{_+_, _*_, _≤_};
 ghost use lib.ListN.{length};
 ghost use Rattle.records.specs.Bytes.{u32Bytes};

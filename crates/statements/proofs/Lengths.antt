@@ -1,12 +1,11 @@
 -- How long a result is. Assumes nothing.
-use mathlib.Core.Path.{_≡_, refl, sym, ap, _∙_}
+use mathlib.Core.Path.{_≡_, ap}
 use mathlib.Core.List.{List}
 use Prim.Native.Nat.{ℕ, _+_, _*_, _≤_}
 use native.Mathlib.Omega.{arith}
 use lib.ListN.{length}
 use Rattle.records.specs.Bytes.{Bytes}
 use Rattle.records.specs.Tree.{sizes}
-use Rattle.records.specs.Record.{headerOf}
 use Rattle.records.specs.File.{File, read, print, headerFor, allTrees, allDeclarators}
 use Rattle.records.specs.Refusal.{roomWanted, refusal}
 use Rattle.records.specs.declared.layout.Header.{Header}

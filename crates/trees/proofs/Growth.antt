@@ -1,13 +1,13 @@
 -- The row of trees behind the nodes that a loop has still to take, and the stack of its entries. Assumes nothing.
-use mathlib.Core.Path.{_≡_, refl, sym, ap, _∙_}
+use mathlib.Core.Path.{_≡_, sym, ap, _∙_}
 use mathlib.Core.Bool.{Bool, true, _&&_}
-use mathlib.Core.List.{List, [], _∷_}
+use mathlib.Core.List.{List}
 use Prim.Native.Nat.{ℕ, _+_, _-_, _*_, _≤_, _<_, min}
 use native.Mathlib.Omega.{arith}
 use lib.ListN.{length, drop, set, length-set}
 use lib.Seq.{drop-length, drop-drop}
 use Rattle.records.specs.Records.{recordsFrom}
-use Rattle.records.specs.Tree.{Trees, grown, rowOf, closed}
+use Rattle.records.specs.Tree.{rowOf, closed}
 use Rattle.records.specs.Place.{allPlaced}
 use Rattle.records.specs.declared.layout.NodeRecord.{NodeRecord}
 use Rattle.trees.specs.Stack.{entries, childrenStand, nodeEntry, pushed}

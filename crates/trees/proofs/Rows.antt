@@ -1,14 +1,14 @@
 -- Rows of trees, and the entries that are kept of them. Assumes nothing.
 use mathlib.Core.Path.{_≡_, refl, sym, ap, _∙_}
-use mathlib.Core.Bool.{Bool, true, false, _&&_, _||_, not, and-assoc}
-use mathlib.Core.List.{List, [], _∷_}
-use Prim.Native.Nat.{ℕ, zero, suc, _+_, _*_, _/_, _%_}
+use mathlib.Core.Bool.{Bool, true, false, _&&_, and-assoc}
+use mathlib.Core.List.{List, _∷_}
+use Prim.Native.Nat.{ℕ, zero, suc, _+_, _*_, _%_}
 use native.Mathlib.Omega.{arith}
 use lib.ListN.{length, take, drop}
-use lib.Dec.{eqb, leb}
+use lib.Dec.{leb}
 use Rattle.records.specs.Records.{everyFrom}
-use Rattle.records.specs.Tree.{Node, Tree, Trees, node, none, more, count, firsts, others, nodeOf, grown, rowOf, closed}
-use Rattle.records.specs.Place.{root, loose, looseFirst, standUnder, placed, allPlaced, rootsStand, mayStand, mayBeLoose, isExpression}
+use Rattle.records.specs.Tree.{Node, Trees, none, more, count, firsts, others, nodeOf, grown, rowOf, closed}
+use Rattle.records.specs.Place.{root, loose, looseFirst, standUnder, placed, allPlaced, rootsStand}
 use Rattle.records.specs.declared.layout.NodeRecord.{NodeRecord}
 use Rattle.trees.specs.Stack.{entry, entries, entryKind, entryLoose, childStands, firstLoose, childrenStand, nodeEntry, pushed, rootStands}
 

@@ -1,12 +1,11 @@
 -- A stack that grows downward, and the entries on it. Assumes nothing.
 use mathlib.Core.Path.{_≡_, refl, sym, ap, _∙_}
-use mathlib.Core.Bool.{Bool, false}
+use mathlib.Core.Bool.{false}
 use mathlib.Core.List.{List, [], _∷_}
-use Prim.Native.Nat.{ℕ, zero, suc, _+_, _-_, _*_, _≤_, _<_, min}
+use Prim.Native.Nat.{ℕ, zero, suc, _+_, _-_, _≤_, _<_, min}
 use native.Mathlib.Omega.{arith}
-use native.Mathlib.Nat.{add-zero}
 use lib.ListN.{length, getD, take, drop, set, length-take, length-drop}
-use lib.Seq.{lt-length-set, drop-cons, drop-drop, drop-set-lt, getD-set-same}
+use lib.Seq.{lt-length-set, drop-cons, drop-set-lt, getD-set-same}
 use Rattle.records.specs.Records.{recordsFrom}
 use Rattle.trees.specs.Stack.{entryAt, entryLoose, firstLoose}
 

@@ -1,6 +1,6 @@
 -- The uses of names in a row of trees, record by record. Assumes nothing.
-use mathlib.Core.Path.{_≡_, refl, sym, ap, _∙_}
-use mathlib.Core.Bool.{Bool, true, false, cond, _&&_}
+use mathlib.Core.Path.{_≡_, refl, ap, _∙_}
+use mathlib.Core.Bool.{cond}
 use mathlib.Core.List.{List, [], _∷_}
 use Prim.Native.Nat.{ℕ, zero, suc, _+_, _≤_}
 use native.Mathlib.Omega.{arith}
@@ -8,10 +8,9 @@ use native.Mathlib.Nat.{add-assoc, zero-add}
 use lib.ListN.{length}
 use lib.Dec.{eqb, eqb·suc-zero}
 use Rattle.records.specs.Limits.{noNumber}
-use Rattle.records.specs.Flags.{compound}
 use Rattle.records.specs.File.{one}
-use Rattle.records.specs.Tree.{Node, Tree, Trees, node, none, more, firsts, others, nodeOf, grown, rowOf}
-use Rattle.records.specs.Count.{targetName, firstTarget, nameRead, usesIn, usesOf, readsOf, targetsOf}
+use Rattle.records.specs.Tree.{Node, Trees, none, more, firsts, others, nodeOf, grown, rowOf}
+use Rattle.records.specs.Count.{firstTarget, nameRead, usesIn, usesOf}
 use Rattle.records.specs.declared.layout.NodeRecord.{NodeRecord}
 use Rattle.records.proofs.Tests.{one-most}
 use Rattle.uses.specs.Tally.{headTarget, recordRead}

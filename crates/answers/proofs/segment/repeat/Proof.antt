@@ -1,7 +1,7 @@
 -- `answers::segment::repeat` meets its contract. Assumes nothing.
 use native.Mathlib.Omega.{arith}
 use Prim.Native.Nat.{_-_, _≤_}
-use mathlib.Core.Path.{_≡_, refl, _∙_}
+use mathlib.Core.Path.{_≡_, refl}
 use lib.ListN.{length, length-set}
 use Rattle.answers.proofs.segment.repeat.Statement.{statement}
 use Rattle.answers.proofs.segment.repeat.Tie as tie

@@ -1,5 +1,4 @@
 -- `records::header::not_a_script` meets its contract. Assumes nothing.
-use mathlib.Core.Path.{refl}
 use borrow.Author.Tests.{lt-ltb, le-ltb}
 use Rattle.records.specs.Header.{notAScript}
 use borrow.Author.Needs.{needs}

@@ -1,5 +1,4 @@
 -- `records::header::part_offsets` meets its contract. Assumes nothing.
-use native.Mathlib.Nat.{add-assoc}
 use borrow.Author.Needs.{needs}
 use Rattle.records.proofs.header.part_offsets.Statement.{statement}
 use Rattle.records.proofs.header.part_offsets.Tie as tie

@@ -1,12 +1,12 @@
 -- `records::script::declarator_totals` meets its contract. Assumes nothing.
-use mathlib.Core.Path.{_≡_, refl, sym, ap, _∙_}
-use Prim.Native.Nat.{ℕ, _-_, _≤_}
+use mathlib.Core.Path.{refl}
+use Prim.Native.Nat.{_-_, _≤_}
 use native.Mathlib.Omega.{arith}
 use lib.Dec.{eqb}
 use Rattle.records.specs.Record.{nameAt, declaratorAt}
 use Rattle.records.specs.Records.{recordsFrom}
 use Rattle.records.specs.File.{one, initializers}
-use Rattle.records.specs.Script.{goodDeclarator, goodDeclaratorOf, flagsOf}
+use Rattle.records.specs.Script.{goodDeclarator}
 use Rattle.records.specs.declared.layout.DeclaratorRecord.{DeclaratorRecord}
 use Rattle.records.proofs.Names.{declarator-judged}
 use Rattle.records.proofs.Series.{Passed, passed-none, passed-more, passed-all, Summed, summed-none, summed-more, summed-all}

@@ -1,6 +1,6 @@
 -- `search::declarator::substitute_single_use_symbol_in_expression_from_declarator` meets its contract. Assumes nothing.
 use native.Mathlib.Omega.{arith}
-use mathlib.Core.Path.{_≡_, refl, sym, ap, _∙_, subst}
+use mathlib.Core.Path.{sym, ap, _∙_, subst}
 use Rattle.plans.proofs.Children.{stands-room}
 use Rattle.records.specs.File.{read}
 use Rattle.walk.specs.Context.{contextOf}

@@ -1,9 +1,9 @@
 -- `search::from_declarators::substitute_single_use_symbol_in_expression_from_declarators` meets its contract. Assumes nothing.
-use Prim.Native.Nat.{_+_, _*_, _-_}
+use Prim.Native.Nat.{_+_, _-_}
 use borrow.Author.Needs.{needs}
 use borrow.Author.Tests.{not-true, not-false}
 use native.Mathlib.Omega.{arith}
-use mathlib.Core.Path.{_≡_, refl, sym, ap, _∙_, subst}
+use mathlib.Core.Path.{_≡_, refl, _∙_}
 use lib.ListN.{length}
 use Rattle.records.specs.File.{read}
 use Rattle.walk.specs.Context.{contextOf}

@@ -1,5 +1,4 @@
 -- `trees::place::child_stands` meets its contract. Assumes nothing.
-use mathlib.Core.Path.{_≡_, refl, sym, ap, _∙_}
 use Rattle.trees.specs.Stack.{childStands}
 use borrow.Author.Needs.{needs}
 use Rattle.trees.proofs.place.child_stands.Statement.{statement}

@@ -1,9 +1,7 @@
 -- `trees::place::children_stand` meets its contract. Assumes nothing.
-use mathlib.Core.Path.{_≡_, refl, sym, ap, _∙_}
 use Prim.Native.Nat.{_-_}
 use native.Mathlib.Omega.{arith}
 use native.Mathlib.Nat.{one-mul}
-use lib.ListN.{getD}
 use Rattle.records.proofs.Series.{Passed, passed-none, passed-more, passed-all}
 use Rattle.trees.specs.Stack.{entryAt, childStands}
 use Rattle.trees.proofs.place.children_stand.Statement.{statement}

@@ -1,8 +1,6 @@
 -- `trees::place::entry` meets its contract. Assumes nothing.
-use mathlib.Core.Path.{_≡_, refl, sym, ap, _∙_}
 use native.Mathlib.Nat.{add-zero}
 use Rattle.trees.specs.Stack.{entry}
-use native.Mathlib.Omega.{arith}
 use borrow.Author.Needs.{needs}
 use Rattle.trees.proofs.place.entry.Statement.{statement}
 use Rattle.trees.proofs.place.entry.Tie as tie

@@ -1,5 +1,5 @@
 -- `trees::place::is_expression` meets its contract. Assumes nothing.
-use mathlib.Core.Path.{_≡_, refl, sym, ap, _∙_}
+use mathlib.Core.Path.{refl}
 use Rattle.records.specs.Place.{isExpression}
 use Rattle.trees.proofs.place.is_expression.Statement.{statement}
 use Rattle.trees.proofs.place.is_expression.Tie as tie

@@ -1,5 +1,4 @@
 -- `trees::place::may_be_loose` meets its contract. Assumes nothing.
-use mathlib.Core.Path.{_≡_, refl, sym, ap, _∙_}
 use Rattle.records.specs.Place.{mayBeLoose}
 use borrow.Author.Needs.{needs}
 use Rattle.trees.proofs.place.may_be_loose.Statement.{statement}

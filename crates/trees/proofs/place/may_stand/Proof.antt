@@ -1,5 +1,4 @@
 -- `trees::place::may_stand` meets its contract. Assumes nothing.
-use mathlib.Core.Path.{_≡_, refl, sym, ap, _∙_}
 use Rattle.records.specs.Place.{mayStand}
 use borrow.Author.Needs.{needs}
 use Rattle.trees.proofs.place.may_stand.Statement.{statement}

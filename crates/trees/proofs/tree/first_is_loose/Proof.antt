@@ -1,6 +1,4 @@
 -- `trees::tree::first_is_loose` meets its contract. Assumes nothing.
-use mathlib.Core.Path.{_≡_, refl, sym, ap, _∙_}
-use native.Mathlib.Omega.{arith}
 use Rattle.trees.proofs.Stacks.{first-some, first-none}
 use borrow.Author.Needs.{needs}
 use Rattle.trees.proofs.tree.first_is_loose.Statement.{statement}

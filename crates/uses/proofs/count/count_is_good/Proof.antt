@@ -1,6 +1,4 @@
 -- `uses::count::count_is_good` meets its contract. Assumes nothing.
-use mathlib.Core.Path.{_≡_, refl, sym, ap, _∙_}
-use native.Mathlib.Omega.{arith}
 use Rattle.records.specs.Count.{goodCounts}
 use borrow.Author.Needs.{needs}
 use Rattle.uses.proofs.count.count_is_good.Statement.{statement}

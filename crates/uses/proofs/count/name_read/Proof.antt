@@ -1,6 +1,4 @@
 -- `uses::count::name_read` meets its contract. Assumes nothing.
-use mathlib.Core.Path.{_≡_, refl, sym, ap, _∙_}
-use native.Mathlib.Omega.{arith}
 use Rattle.uses.specs.Tally.{recordRead}
 use Rattle.uses.proofs.count.name_read.Statement.{statement}
 use Rattle.uses.proofs.count.name_read.Tie as tie

@@ -1,6 +1,4 @@
 -- `uses::count::target_name` meets its contract. Assumes nothing.
-use mathlib.Core.Path.{_≡_, refl, sym, ap, _∙_}
-use native.Mathlib.Omega.{arith}
 use Rattle.records.specs.Tree.{nodeOf}
 use Rattle.records.specs.Count.{targetName}
 use Rattle.uses.proofs.count.target_name.Statement.{statement}

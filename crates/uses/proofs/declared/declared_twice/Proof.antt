@@ -1,5 +1,4 @@
 -- `uses::declared::declared_twice` meets its contract. Assumes nothing.
-use mathlib.Core.Path.{_≡_, refl, sym, ap, _∙_}
 use native.Mathlib.Omega.{arith}
 use Rattle.records.specs.Record.{declaratorAt}
 use Rattle.uses.proofs.Declaring.{Declaring, declaring-none, declaring-name, declaring-pattern, declared-all, pattern-at}

@@ -1,5 +1,5 @@
 -- `writers::number::put_u32` meets its contract. Assumes nothing.
-use mathlib.Core.Path.{_≡_, refl, sym, ap, _∙_}
+use mathlib.Core.Path.{_∙_}
 use borrow.Author.Needs.{needs}
 use Rattle.writers.proofs.number.put_u32.Statement.{statement}
 use Rattle.writers.proofs.number.put_u32.Tie as tie

@@ -1,5 +1,5 @@
 -- `writers::put::put_declarator` meets its contract. Assumes nothing.
-use mathlib.Core.Path.{_≡_, refl, sym, ap, _∙_}
+use mathlib.Core.Path.{_∙_}
 use Rattle.records.specs.Record.{declaratorBytes}
 use borrow.Author.Needs.{needs}
 use Rattle.writers.proofs.put.put_declarator.Statement.{statement}

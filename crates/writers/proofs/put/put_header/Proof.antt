@@ -1,5 +1,5 @@
 -- `writers::put::put_header` meets its contract. Assumes nothing.
-use mathlib.Core.Path.{_≡_, refl, sym, ap, _∙_}
+use mathlib.Core.Path.{_∙_}
 use Rattle.records.specs.Record.{headerBytes}
 use borrow.Author.Needs.{needs}
 use Rattle.writers.proofs.put.put_header.Statement.{statement}
