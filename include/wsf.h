@@ -8,7 +8,7 @@
  *     if (answer.number == WSF_FOLDED)
  *         use(output, answer.length);
  *     else
- *         use(file, file_length);     (refused: the output is as it was)
+ *         report(answer.number);      (refused: the output is as it was; the page says what to do)
  */
 #ifndef WSF_H
 #define WSF_H

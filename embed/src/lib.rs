@@ -43,7 +43,7 @@ pub fn fold(file: &[u8], output: &mut [u8]) -> Result<Folded, Refusal> {
 }
 
 /// The room that the fold of this file wants: its length and 8 bytes a declarator. Never more than
-/// `MOST_ROOM`, which is more than any accepted file wants.
+/// `MOST_ROOM`, which is enough for every accepted file.
 pub fn room_for(file: &[u8]) -> usize {
     let declarators = match file.get(DECLARATORS_AT..DECLARATORS_AT + 2) {
         Some(count) if file.len() >= HEADER_BYTES => u16::from_le_bytes([count[0], count[1]]),

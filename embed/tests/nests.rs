@@ -1,4 +1,4 @@
-//! `let v = 1;` and a tree of 2,990 nodes, as deep as its kind allows, with `v` within, folded on a thread of 2 MB, which is what
+//! `let v = 1;` and a tree of some 2,990 nodes, as deep as its kind allows, with `v` within, folded on a thread of 2 MB, which is what
 //! Rust gives a thread unless told otherwise.
 
 use wsf::{Folded, fold, room_for};

@@ -184,7 +184,7 @@ plain-member table at target t object o k c h =
       one = subst (λ x. x .children ≡ 1) t (eqb-true (target .children) 1 c);
       unmarked = subst (λ x. marked (x .flags) ≡ false) t (not-true (marked (target .flags)) u);
       bare = subst (λ x. eqb (x .children) 0 ≡ true) o b;
-      quiet = subst (λ x. marked (x .flags) ≡ false) o (not-true (marked (object .flags)) q);
+      object-unmarked = subst (λ x. marked (x .flags) ≡ false) o (not-true (marked (object .flags)) q);
     }
 
 -- A member of a leaf, as a target.
@@ -201,7 +201,7 @@ module _ (ctx : Context) (s : Sought) (table : List ℕ) (at : ℕ) (n : NodeRec
   object-passes =
       let two : at + 2 ≡ at + 1 + 1 = omega arith in
       let three : at + 2 + 1 ≡ at + 3 = omega arith in
-      let quiet : false ≡ hasEffect (nodeOf (objectAt table at)) = sym (p .quiet) ∙ leaf-marked (objectAt table at) bare in
+      let quiet : false ≡ hasEffect (nodeOf (objectAt table at)) = sym (p .object-unmarked) ∙ leaf-marked (objectAt table at) bare in
       subst (λ j. Passes table j 1 (at + 3) false) two (subst (λ j. Passes table (at + 2) 1 j false) three (leaf-passes (objectAt table at) refl bare false quiet))
 
   member-passes : Passes table (at + 1) 1 (at + 3) false
@@ -224,9 +224,9 @@ module _ (ctx : Context) (s : Sought) (table : List ℕ) (at : ℕ) (n : NodeRec
       k here
 
   -- a step is placed, and the object may change places with it
-  pub enters-still : memberPartBlocksReorder ctx (node (nodeOf (objectAt table at)) none) ≡ false → s .effect ≡ true → compound (n .flags) ≡ false
+  pub enters-unblocked : memberPartBlocksReorder ctx (node (nodeOf (objectAt table at)) none) ≡ false → s .effect ≡ true → compound (n .flags) ≡ false
       → n ≡ nodeAt table (16 * at) → n .kind ≡ 20 → n .children ≡ 2 → Known s → Searchable table at → EntersAt ctx s table at 3
-  enters-still q a c e kind two k here =
+  enters-unblocked q a c e kind two k here =
       let two-on : at + 1 + 1 ≡ at + 2 = omega arith in
       let object : FirstChild table (at + 1) (objectAt table at) = first-read {n = targetAt table at} refl (omega (arith, p .one)) (ap (λ j. nodeAt table (16 * j)) (sym two-on)) in
       let kind-is : (k : ℕ) → eqb 10 k ≡ false → eqb 11 k ≡ false → eqb (targetAt table at .kind) k ≡ false =
@@ -241,9 +241,9 @@ module _ (ctx : Context) (s : Sought) (table : List ℕ) (at : ℕ) (n : NodeRec
       either-order false false h = h
 
 -- a settled name, as an object
-pub name-still : (ctx : Context) (object : NodeRecord) → passesName ctx object ≡ true → memberPartBlocksReorder ctx (node (nodeOf object) none) ≡ false
+pub name-unblocked : (ctx : Context) (object : NodeRecord) → passesName ctx object ≡ true → memberPartBlocksReorder ctx (node (nodeOf object) none) ≡ false
 unfolding memberPartBlocksReorder nodeOf
-name-still ctx object h =
+name-unblocked ctx object h =
     let (k, u) = both (eqb (object .kind) 4) (not (unsettled ctx (object .label))) h in
     rw k (not-true (unsettled ctx (object .label)) u)
 

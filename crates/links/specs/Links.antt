@@ -1,4 +1,4 @@
--- Nodes each of which is a child of the one before, behind leaves, down to the one that is searched first.
+-- Nodes each of which is a child of the one before, behind leaves or behind a target, down to the one that is searched first.
 use Prim.Native.Nat.{ℕ, zero, suc, _+_, _-_, _*_, _≤_, _<_}
 use mathlib.Core.Bool.{Bool, true, false, cond, _||_, not}
 use mathlib.Core.List.{List, _++_}

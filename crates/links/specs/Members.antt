@@ -19,15 +19,15 @@ targetAt table at = nodeAt table (16 * (at + 1))
 abbrev pub objectAt : List ℕ → ℕ → NodeRecord
 objectAt table at = nodeAt table (16 * (at + 2))
 
--- a member that isn't computed, with one child; neither has a mark, and the child has none of its own
+-- a member that isn't computed, with one child; neither has a mark, and the child has no children
 pub record PlainMember (table : List ℕ) (at : ℕ) : Type 0 where
   pub member : (eqb (targetAt table at .kind) 10 || eqb (targetAt table at .kind) 11) ≡ true
   pub one : targetAt table at .children ≡ 1
   pub unmarked : marked (targetAt table at .flags) ≡ false
   pub bare : eqb (objectAt table at .children) 0 ≡ true
-  pub quiet : marked (objectAt table at .flags) ≡ false
+  pub object-unmarked : marked (objectAt table at .flags) ≡ false
 
 -- a leaf, as an object, that may change places with a step
 pub record PassedObject (ctx : Context) (object : NodeRecord) : Type 0 where
   pub bare : isLeaf object ≡ true
-  pub still : memberPartBlocksReorder ctx (node (nodeOf object) none) ≡ false
+  pub unblocked : memberPartBlocksReorder ctx (node (nodeOf object) none) ≡ false

@@ -2,7 +2,7 @@
 ghost use Prim.Native.Nat.{_*_, _≤_};
 ghost use lib.ListN.{length};
 ghost use Rattle.links.specs.Above.{SomeAbove, IsAbove, Carries, CarriesEnded};
-use crate::descent::Descent;
+use crate::descent::Reached;
 use crate::leaf::is_leaf;
 use crate::leaf::leaf_effect;
 use crate::leaf::leaf_looks;
@@ -65,9 +65,9 @@ pub fn node_above(nodes: &[u8], child: NodeId) -> Before
     }
 }
 
-// Back from a child through nodes that have no other one, no further than `at`: the last of them, and the looks at them. If the
-// search ended in the child, it ended in them.
-fn above_only_child(nodes: &[u8], at: NodeId, child: NodeId) -> Descent
+// Back from a child through nodes that have no other one, no further than `at`: the last of them, or the child itself if there
+// is none, and the looks at them. If the search ended in the child, it ended in them.
+fn above_only_child(nodes: &[u8], at: NodeId, child: NodeId) -> Reached
     requires { ⌜ 16 * child .0 ≤ length (now nodes) ⌝ }
     ensures { λ r. ⌜ CarriesEnded (now (nodes .entry)) (at .0) (child .0) (r .node .0) (r .looks) ⌝ }
 {
@@ -81,26 +81,26 @@ fn above_only_child(nodes: &[u8], at: NodeId, child: NodeId) -> Descent
         looks += own_looks(n);
         next -= 1;
     }
-    Descent {
+    Reached {
         node: NodeId(next),
         looks,
     }
 }
 
-// The same by what the search of the child did: no way, if it goes on behind the child or the name was found.
-pub fn above_ended(nodes: &[u8], at: NodeId, child: NodeId, w: Walked) -> Descent
+// The same where the search ended in the child; else the child itself, with no looks.
+pub fn above_ended(nodes: &[u8], at: NodeId, child: NodeId, w: Walked) -> Reached
     requires { ⌜ 16 * child .0 ≤ length (now nodes) ⌝ }
     ensures { λ r. ⌜ Carries (now (nodes .entry)) (at .0) (child .0) (r .node .0) (r .looks) w ⌝ }
 {
     let answer = w.answer;
     if is_replaced(answer) {
-        return Descent {
+        return Reached {
             node: child,
             looks: 0,
         };
     }
     if is_passed(answer) {
-        return Descent {
+        return Reached {
             node: child,
             looks: 0,
         };

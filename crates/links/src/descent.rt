@@ -60,7 +60,7 @@ fn distance(file: &[u8], h: Header, nodes: &[u8], at: NodeId, n: NodeRecord, s: 
     value_distance(file, h, nodes, at, n, s)
 }
 
-// So many of a node's children are left from the first that is searched on.
+// How many of a node's children are left, counted from the first that is searched.
 fn left_from(n: NodeRecord, far: usize) -> usize
     ensures { λ r. ⌜ r ≡ leftFrom n far ⌝ }
 {
@@ -70,15 +70,15 @@ fn left_from(n: NodeRecord, far: usize) -> usize
     1
 }
 
-// Where the way down ends, and the looks on it.
-pub struct Descent {
+// The node that a way down or back has come to, and the looks on that way.
+pub struct Reached {
     pub node: NodeId,
     pub looks: usize,
 }
 
-// The first node from `at` on that the search doesn't go down through. Leaves are passed where each child of the last link is
-// searched; the last one isn't.
-pub fn behind_links(file: &[u8], h: Header, nodes: &[u8], at: NodeId, s: Sought) -> Descent
+// The first node from `at` on that the search doesn't go down through. A leaf is passed where every child of the node above it
+// is entered; a node's last child never is.
+pub fn behind_links(file: &[u8], h: Header, nodes: &[u8], at: NodeId, s: Sought) -> Reached
     requires { ⌜ h ≡ headerOf (now file) ⌝ }
     requires { ⌜ length (now file) ≡ fileLength h ⌝ }
     requires { ⌜ Searchable (now nodes) (at .0) ⌝ }
@@ -117,7 +117,7 @@ pub fn behind_links(file: &[u8], h: Header, nodes: &[u8], at: NodeId, s: Sought)
         link = n;
         n = work_node(nodes, NodeId(next));
     }
-    Descent {
+    Reached {
         node: NodeId(next),
         looks,
     }

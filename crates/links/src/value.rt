@@ -38,7 +38,8 @@ fn is_to_plain_member(nodes: &[u8], at: NodeId, n: NodeRecord) -> bool
     (object.children == 0) & !(object.flags / 1 % 2 == 1) & !(target.flags / 1 % 2 == 1)
 }
 
-// A leaf that is no plain name, as an object: it may change places with a step that is placed in the value.
+// Whether an object is a leaf that may change places with a step that is placed in the value. Names are tested before, by their
+// facts alone.
 fn passes_object(file: &[u8], h: Header, object: NodeRecord) -> bool
     requires { ⌜ h ≡ headerOf (now file) ⌝ }
     requires { ⌜ length (now file) ≡ fileLength h ⌝ }

@@ -53,18 +53,18 @@ pub fn children_fit(stack: &[u16], top: usize, count: usize, first: u64, later: 
     all_in(stack, top + 2, count - 2, later)
 }
 
-// The entry of a node above its first child's. A chain (13) is never loose.
+// The entry of a node whose first child has the entry `first`. A chain (13) is never loose.
 pub fn entry_above(n: NodeRecord, first: u16) -> u16
     ensures { λ r. ⌜ r ≡ entryOf (n .kind) (not (eqb (n .kind) 13) && (isOptional (n .flags) || entryLoose first)) ⌝ }
 {
     let optional = n.flags / 2 % 2 == 1;
     let loose = first % 2 == 1;
-    let link = !(n.kind == 13);
+    let may_be_loose = !(n.kind == 13);
     if loose {
-        return entry(n.kind, link);
+        return entry(n.kind, may_be_loose);
     }
     if optional {
-        return entry(n.kind, link);
+        return entry(n.kind, may_be_loose);
     }
     entry(n.kind, false)
 }

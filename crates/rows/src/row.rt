@@ -14,7 +14,7 @@ use records::set::is_in;
 // this one.
 const NO_ROW: usize = 33;
 
-// The kinds that may be marked, whatever name they have: all but 1, 2, 4, 5, 13 and 26 to 29.
+// The kinds that row 7 lets be marked without asking for a name: all but 1, 2, 4, 5, 13 and 26 to 29.
 const MARKABLE: u64 = 0x43ff_dfc9;
 
 // A property with flags.
@@ -43,8 +43,8 @@ fn marked_row(kind: u8) -> usize
     NO_ROW
 }
 
-// An optional link, marked or not.
-fn link_row(kind: u8, flags: u8) -> usize
+// An optional member or call, marked or not.
+fn optional_row(kind: u8, flags: u8) -> usize
     requires { ⌜ kind ≤ 30 ⌝ }
     ensures { λ r. ⌜ (r < 33 → inRow kind flags r ≡ true) ⌝ }
 {
@@ -91,7 +91,7 @@ fn flagged_row(n: NodeRecord) -> usize
         return property_row(n.flags);
     }
     if n.flags < 4 {
-        return link_row(n.kind, n.flags);
+        return optional_row(n.kind, n.flags);
     }
     anonymous_row(n.kind, n.flags)
 }

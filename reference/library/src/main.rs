@@ -16,7 +16,7 @@ use reference::command_line::exit_code;
 const USAGE: &str = "\
 library compare [--short] [SEED]   compare the library with the reference, case by case
 library bench                      times of both on the same files
-library stack                      the stack that a fold of the deepest trees needs
+library stack                      the stack that calls take, the most of each group
 ";
 
 fn main() -> ExitCode {

@@ -19,7 +19,7 @@ member-part-blocks-reorder-requires c κs = search needs
 returns : tie.Need-returns
 returns c = λ h.
     let (b, m) = both ((c .before .is-leaf) .result) (not ((c .member-part-blocks-reorder) .result)) h in
-    record { bare = sym ((c .before .is-leaf) .ensures) ∙ b; still = sym ((c .member-part-blocks-reorder) .ensures) ∙ not-true ((c .member-part-blocks-reorder) .result) m }
+    record { bare = sym ((c .before .is-leaf) .ensures) ∙ b; unblocked = sym ((c .member-part-blocks-reorder) .ensures) ∙ not-true ((c .member-part-blocks-reorder) .result) m }
 
 pub passes-object-spec : {M : Type 1} → statement M
 passes-object-spec =

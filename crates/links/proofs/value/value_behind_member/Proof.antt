@@ -10,7 +10,7 @@ use Rattle.plans.proofs.Targets.{stops-not}
 use Rattle.links.specs.OfNode.{isLeaf, passesName}
 use Rattle.links.specs.Members.{objectAt, PassedObject}
 use Rattle.links.proofs.Searching.{searchable-room}
-use Rattle.links.proofs.Values.{object-here, enters-member, enters-still, name-still, name-leaf}
+use Rattle.links.proofs.Values.{object-here, enters-member, enters-unblocked, name-unblocked, name-leaf}
 use borrow.Author.Needs.{needs}
 use Rattle.links.proofs.value.value_behind_member.Statement.{statement}
 use Rattle.links.proofs.value.value_behind_member.Tie as tie
@@ -62,9 +62,9 @@ returns-5 c =
     let a = (c .before .before .before .before .before .before .before .before .before .before .before .before .before .before) .args in
     let p = (c .before .before .before .before .before .before .before .before .before .before .before .is-to-plain-member) .ensures (not-false ((c .before .before .before .before .before .before .before .before .before .before .before .is-to-plain-member) .result) ((c .before .before .before .before .before .before .before .before .before .before .if1) .left)) in
     let ctx = contextOf (read (a .file .now)) in
-    let still = name-still ctx (objectAt (a .nodes .now) (a .at .0)) (subst (λ x. passesName ctx x ≡ true) ((c .before .before .before .before .before .before .before .before .work-node) .ensures) (sym ((c .before .passes-name) .ensures) ∙ (c .if6) .taken)) in
+    let still = name-unblocked ctx (objectAt (a .nodes .now) (a .at .0)) (subst (λ x. passesName ctx x ≡ true) ((c .before .before .before .before .before .before .before .before .work-node) .ensures) (sym ((c .before .passes-name) .ensures) ∙ (c .if6) .taken)) in
     let bare = name-leaf (objectAt (a .nodes .now) (a .at .0)) (p .bare) (ap (λ x. x .kind) (sym ((c .before .before .before .before .before .before .before .before .work-node) .ensures)) ∙ (c .before .before .if5) .taken) in
-    λ _ known. enters-still ctx (a .s) (a .nodes .now) (a .at .0) (a .n) p bare still (not-false (a .s .effect) ((c .before .before .before .before .before .before .if2) .left)) (ne-eqb (a .n .flags / 8 % 2) 1 ((c .before .before .before .before .if4) .left)) ((c .before .before .before .before .before .before .before .before .before .before .before .before .before .before) .pre .1 .1 .1 .0) ((c .before .before .before .before .before .before .before .before .before .before .before .before .before .before) .pre .1 .1 .1 .1 .0) ((c .before .before .before .before .before .before .before .before .before .before .before .before .before .before) .pre .1 .1 .1 .1 .1) known ((c .before .before .before .before .before .before .before .before .before .before .before .before .before .before) .pre .1 .1 .0)
+    λ _ known. enters-unblocked ctx (a .s) (a .nodes .now) (a .at .0) (a .n) p bare still (not-false (a .s .effect) ((c .before .before .before .before .before .before .if2) .left)) (ne-eqb (a .n .flags / 8 % 2) 1 ((c .before .before .before .before .if4) .left)) ((c .before .before .before .before .before .before .before .before .before .before .before .before .before .before) .pre .1 .1 .1 .0) ((c .before .before .before .before .before .before .before .before .before .before .before .before .before .before) .pre .1 .1 .1 .1 .0) ((c .before .before .before .before .before .before .before .before .before .before .before .before .before .before) .pre .1 .1 .1 .1 .1) known ((c .before .before .before .before .before .before .before .before .before .before .before .before .before .before) .pre .1 .1 .0)
 
 returns-6 : tie.Need-returns-6
 returns-6 c = λ z. absurd (z refl)
@@ -78,7 +78,7 @@ returns-7 c =
     let p = (c .before .before .before .before .before .before .before .before .before .before .before .is-to-plain-member) .ensures (not-false ((c .before .before .before .before .before .before .before .before .before .before .before .is-to-plain-member) .result) ((c .before .before .before .before .before .before .before .before .before .before .if1) .left)) in
     let ctx = contextOf (read (a .file .now)) in
     let q = subst (PassedObject ctx) ((c .before .before .before .before .before .before .before .before .work-node) .ensures) ((c .before .passes-object) .ensures ((c .if7) .taken)) in
-    λ _ known. enters-still ctx (a .s) (a .nodes .now) (a .at .0) (a .n) p (q .bare) (q .still) (not-false (a .s .effect) ((c .before .before .before .before .before .before .if2) .left)) (ne-eqb (a .n .flags / 8 % 2) 1 ((c .before .before .before .before .if4) .left)) ((c .before .before .before .before .before .before .before .before .before .before .before .before .before .before) .pre .1 .1 .1 .0) ((c .before .before .before .before .before .before .before .before .before .before .before .before .before .before) .pre .1 .1 .1 .1 .0) ((c .before .before .before .before .before .before .before .before .before .before .before .before .before .before) .pre .1 .1 .1 .1 .1) known ((c .before .before .before .before .before .before .before .before .before .before .before .before .before .before) .pre .1 .1 .0)
+    λ _ known. enters-unblocked ctx (a .s) (a .nodes .now) (a .at .0) (a .n) p (q .bare) (q .unblocked) (not-false (a .s .effect) ((c .before .before .before .before .before .before .if2) .left)) (ne-eqb (a .n .flags / 8 % 2) 1 ((c .before .before .before .before .if4) .left)) ((c .before .before .before .before .before .before .before .before .before .before .before .before .before .before) .pre .1 .1 .1 .0) ((c .before .before .before .before .before .before .before .before .before .before .before .before .before .before) .pre .1 .1 .1 .1 .0) ((c .before .before .before .before .before .before .before .before .before .before .before .before .before .before) .pre .1 .1 .1 .1 .1) known ((c .before .before .before .before .before .before .before .before .before .before .before .before .before .before) .pre .1 .1 .0)
 
 returns-8 : tie.Need-returns-8
 returns-8 c = λ z. absurd (z refl)

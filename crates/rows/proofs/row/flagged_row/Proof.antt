@@ -6,7 +6,7 @@ use Rattle.rows.proofs.row.flagged_row.Tie as tie
 use Rattle.rows.proofs.row.flagged_row.Reads as reads
 use Rattle.rows.proofs.row.flagged_row.Lts as lts
 use Rattle.rows.proofs.row.anonymous_row.Reads as anonymous-row-reads
-use Rattle.rows.proofs.row.link_row.Reads as link-row-reads
+use Rattle.rows.proofs.row.optional_row.Reads as optional-row-reads
 use Rattle.rows.proofs.row.marked_row.Reads as marked-row-reads
 use Rattle.rows.proofs.row.property_row.Reads as property-row-reads
 
@@ -22,11 +22,11 @@ property-row-requires c κs = search needs
 returns-2 : tie.Need-returns-2
 returns-2 c = λ l. same-kind-row ((c .before .before .before .before .before) .args .n .kind) 26 _ _ ((c .before .if2) .taken) ((c .property-row) .ensures l)
 
-link-row-requires : tie.Need-link-row-requires
-link-row-requires c κs = search needs
+optional-row-requires : tie.Need-optional-row-requires
+optional-row-requires c κs = search needs
 
 returns-3 : tie.Need-returns-3
-returns-3 c = λ l. (c .link-row) .ensures l
+returns-3 c = λ l. (c .optional-row) .ensures l
 
 anonymous-row-requires : tie.Need-anonymous-row-requires
 anonymous-row-requires c κs = search needs
@@ -42,7 +42,7 @@ flagged-row-spec =
     returns
     property-row-requires
     returns-2
-    link-row-requires
+    optional-row-requires
     returns-3
     anonymous-row-requires
     returns-4)

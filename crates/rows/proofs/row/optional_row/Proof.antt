@@ -1,4 +1,4 @@
--- `rows::row::link_row` meets its contract. Assumes nothing.
+-- `rows::row::optional_row` meets its contract. Assumes nothing.
 use mathlib.Core.Path.{refl, _∙_}
 use borrow.Author.Tests.{not-false}
 use native.Mathlib.Omega.{arith}
@@ -7,10 +7,10 @@ use Rattle.rows.specs.Rows.{inRow, rowKind, rowFlags, rowChildren}
 use Rattle.records.proofs.Sets.{allBelow}
 use Rattle.rows.proofs.Rows.{link-row}
 use borrow.Author.Needs.{needs}
-use Rattle.rows.proofs.row.link_row.Statement.{statement}
-use Rattle.rows.proofs.row.link_row.Tie as tie
-use Rattle.rows.proofs.row.link_row.Reads as reads
-use Rattle.rows.proofs.row.link_row.Lts as lts
+use Rattle.rows.proofs.row.optional_row.Statement.{statement}
+use Rattle.rows.proofs.row.optional_row.Tie as tie
+use Rattle.rows.proofs.row.optional_row.Reads as reads
+use Rattle.rows.proofs.row.optional_row.Lts as lts
 use Rattle.records.proofs.number.size.Reads as size-reads
 use Rattle.records.proofs.number.wide.Reads as wide-reads
 
@@ -40,8 +40,8 @@ returns-3 c = λ l. link-row ((c .before .before .before .before .before) .args 
 returns-4 : tie.Need-returns-4
 returns-4 c = λ l. absurd (omega arith)
 
-pub link-row-spec : {M : Type 1} → statement M
-link-row-spec =
+pub optional-row-spec : {M : Type 1} → statement M
+optional-row-spec =
     tie.close
     (tie.spec
     returns
