@@ -23,7 +23,8 @@ use Rattle.links.proofs.OfNode.{of-clearing}
 use Rattle.links.proofs.Nodes.{one-searched}
 use Rattle.links.proofs.Going.{gather-none, gather-both, goes-to}
 use Rattle.links.proofs.LeavesBefore.{children-no-leaf, above-same, is-above}
-use Rattle.links.proofs.Chain.{record-was, behind-searched, same-flags, last-link, within-looks, within-same}
+use Rattle.links.proofs.Chain.{record-was, behind-searched, same-flags}
+use Rattle.links.proofs.WayBack.{last-link, within-looks, within-same}
 
 -- The last child of a link gave an answer: so does the link, which stays as it is.
 module _ (ctx : Context) (s : Sought) {table₀ table : List ℕ} {at child before left : ℕ} {effect : Bool} {looks : ℕ} {w : Walked} (k : Known s) (g : Reaches ctx s table₀ at child before left effect looks) (v : Searches ctx s table₀ table child w) where

@@ -12,6 +12,7 @@ pub mod ShapeCases
 pub mod PlansBehind
 pub mod LeavesBefore
 pub mod Chain
+pub mod WayBack
 pub mod Reaching
 pub mod Values
 pub mod Moving

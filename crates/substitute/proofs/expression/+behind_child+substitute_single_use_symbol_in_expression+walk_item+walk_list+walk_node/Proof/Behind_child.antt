@@ -13,7 +13,7 @@ use Rattle.links.proofs.Either.{either-open}
 use Rattle.links.proofs.Searching.{row-stands}
 use Rattle.links.proofs.Nodes.{row-looks-most}
 use Rattle.links.specs.Links.{planBehind}
-use Rattle.links.proofs.Chain.{behind-room, behind-row, behind-seen, behind-looks, plan-was, row-ended, row-branches, row-last, row-all, child-behind}
+use Rattle.links.proofs.WayBack.{behind-room, behind-row, behind-seen, behind-looks, plan-was, row-ended, row-branches, row-last, row-all, child-behind}
 use Rattle.substitute.proofs.expression.behind_child.Reads as behind-child
 use Rattle.substitute.proofs.expression.+behind_child+substitute_single_use_symbol_in_expression+walk_item+walk_list+walk_node.Lts-behind_child as behind-child-lts
 use Rattle.substitute.proofs.expression.walk_list.Reads as walk-list

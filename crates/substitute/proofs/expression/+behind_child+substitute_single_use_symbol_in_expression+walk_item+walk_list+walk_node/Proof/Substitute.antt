@@ -14,7 +14,8 @@ use Rattle.plans.specs.Answers.{isReplaced}
 use Rattle.plans.specs.Search.{Searches}
 use Rattle.links.proofs.Searching.{searchable-room}
 use Rattle.links.specs.Above.{Within}
-use Rattle.links.proofs.Chain.{links-seen, within-looks, within-room, within-above, before-sooner, before-room, before-later, before-looks, within-link, within-child, within-all}
+use Rattle.links.proofs.Chain.{links-seen}
+use Rattle.links.proofs.WayBack.{within-looks, within-room, within-above, before-sooner, before-room, before-later, before-looks, within-link, within-child, within-all}
 use Rattle.links.proofs.Ending.{started}
 use Rattle.substitute.proofs.expression.behind_child.Reads as behind-child
 use Rattle.substitute.proofs.expression.substitute_single_use_symbol_in_expression.Reads as substitute-single-use-symbol-in-expression
