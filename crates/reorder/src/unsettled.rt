@@ -115,7 +115,7 @@ pub fn facts_of(file: &[u8], h: Header, name: NameId) -> NameFacts
 }
 
 // A settled name by its own facts: resolved, no import, neither written nor mutated, not block scoped, and not of scope 0 in a
-// script. Most names are settled so.
+// script. Of a block scoped name the scopes are asked.
 fn is_settled_by_facts(file: &[u8], h: Header, n: NameFacts) -> bool
     requires { ⌜ h ≡ headerOf (now file) ⌝ }
     ensures { λ r. ⌜ (r ≡ true → (unresolvedBit (n .flags) || symbolValueMayChange (contextOf (read (now (file .entry)))) n || isClosedOverBlockScopedRead (contextOf (read (now (file .entry)))) n) ≡ false) ⌝ }
