@@ -247,5 +247,5 @@ name-unblocked ctx object h =
     let (k, u) = both (eqb (object .kind) 4) (not (unsettled ctx (object .label))) h in
     rw k (not-true (unsettled ctx (object .label)) u)
 
-pub name-leaf : (object : NodeRecord) → eqb (object .children) 0 ≡ true → object .kind ≡ 4 → isLeaf object ≡ true
-name-leaf object b k = rw (b, k) refl
+pub name-leaf : (ctx : Context) (object : NodeRecord) → eqb (object .children) 0 ≡ true → passesName ctx object ≡ true → isLeaf object ≡ true
+name-leaf ctx object b h = let (k, _) = both (eqb (object .kind) 4) (not (unsettled ctx (object .label))) h in rw (b, eqb-true (object .kind) 4 k) refl

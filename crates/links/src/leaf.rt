@@ -22,6 +22,7 @@ use records::layout::NodeId;
 use records::layout::NodeRecord;
 use records::number::one;
 use reorder::unsettled::identifier_read_blocks_reorder;
+use reorder::unsettled::is_settled_by_facts;
 
 // A node without children, of a kind that never has any.
 pub fn is_leaf(n: NodeRecord) -> bool
@@ -72,6 +73,18 @@ pub fn passes_name(file: &[u8], h: Header, n: NodeRecord) -> bool
     false
 }
 
+// The same by the name's own facts alone, which is quick.
+pub fn passes_name_by_facts(file: &[u8], h: Header, n: NodeRecord) -> bool
+    requires { ⌜ h ≡ headerOf (now file) ⌝ }
+    requires { ⌜ length (now file) ≡ fileLength h ⌝ }
+    ensures { λ r. ⌜ (r ≡ true → passesName (contextOf (read (now (file .entry)))) n ≡ true) ⌝ }
+{
+    if n.kind == 4 {
+        return is_settled_by_facts(file, h, NameId(n.label));
+    }
+    false
+}
+
 // Such a node that is passed and is not the name.
 pub fn passes_leaf(file: &[u8], h: Header, n: NodeRecord, s: Sought) -> bool
     requires { ⌜ h ≡ headerOf (now file) ⌝ }
@@ -88,6 +101,9 @@ pub fn passes_leaf(file: &[u8], h: Header, n: NodeRecord, s: Sought) -> bool
         return true;
     }
     if moves_leaf(n, s) {
+        return true;
+    }
+    if passes_name_by_facts(file, h, n) {
         return true;
     }
     passes_name(file, h, n)

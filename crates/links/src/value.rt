@@ -12,7 +12,7 @@ ghost use Rattle.links.specs.Links.{EntersAt};
 ghost use Rattle.links.specs.Members.{PlainMember, PassedObject};
 use crate::leaf::is_leaf;
 use crate::leaf::leaf_effect;
-use crate::leaf::passes_name;
+use crate::leaf::passes_name_by_facts;
 use plans::sought::Sought;
 use records::layout::Header;
 use records::layout::NodeId;
@@ -78,11 +78,8 @@ fn value_behind_member(
     if n.flags / 8 % 2 == 1 {
         return 0;
     }
-    if object.kind == 4 {
-        if passes_name(file, h, object) {
-            return 3;
-        }
-        return 0;
+    if passes_name_by_facts(file, h, object) {
+        return 3;
     }
     if passes_object(file, h, object) {
         return 3;

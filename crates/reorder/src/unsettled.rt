@@ -114,18 +114,21 @@ pub fn facts_of(file: &[u8], h: Header, name: NameId) -> NameFacts
     }
 }
 
-// A settled name by its own facts: resolved, no import, neither written nor mutated, not block scoped, and not of scope 0 in a
-// script. Of a block scoped name the scopes are asked.
-fn is_settled_by_facts(file: &[u8], h: Header, n: NameFacts) -> bool
+// A settled name by its own facts: resolved, no import, neither written nor mutated, not block scoped or of the current scope,
+// and not of scope 0 in a script. Of a block scoped name of another scope the scopes are asked.
+pub fn is_settled_by_facts(file: &[u8], h: Header, name: NameId) -> bool
     requires { ⌜ h ≡ headerOf (now file) ⌝ }
-    ensures { λ r. ⌜ (r ≡ true → (unresolvedBit (n .flags) || symbolValueMayChange (contextOf (read (now (file .entry)))) n || isClosedOverBlockScopedRead (contextOf (read (now (file .entry)))) n) ≡ false) ⌝ }
+    requires { ⌜ length (now file) ≡ fileLength h ⌝ }
+    ensures { λ r. ⌜ (r ≡ true → unsettled (contextOf (read (now (file .entry)))) (name .0) ≡ false) ⌝ }
 {
+    let n = facts_of(file, h, name);
     let block_scoped = n.flags / 1 % 2 == 1;
+    let outside = block_scoped & !(n.scope == h.current_scope);
     let import = n.flags / 2 % 2 == 1;
     let mutated = n.flags / 64 % 2 == 1;
     let unresolved = n.flags / 128 % 2 == 1;
     let script = h.options / 1 % 2 == 1;
-    !(block_scoped | import | mutated | unresolved) & (n.writes == 0) & !(script & (n.scope == 0))
+    !(outside | import | mutated | unresolved) & (n.writes == 0) & !(script & (n.scope == 0))
 }
 
 // Whether a read of a name may not change places with another step.
@@ -134,10 +137,10 @@ pub fn identifier_read_blocks_reorder(file: &[u8], h: Header, name: NameId) -> b
     requires { ⌜ length (now file) ≡ fileLength h ⌝ }
     ensures { λ r. ⌜ r ≡ unsettled (contextOf (read (now (file .entry)))) (name .0) ⌝ }
 {
-    let n = facts_of(file, h, name);
-    if is_settled_by_facts(file, h, n) {
+    if is_settled_by_facts(file, h, name) {
         return false;
     }
+    let n = facts_of(file, h, name);
     let unresolved = n.flags / 128 % 2 == 1;
     if unresolved | symbol_value_may_change(file, h, n) {
         return true;

@@ -131,7 +131,8 @@ fn nest(level: &Level, initializer: &[Node]) -> RecordFile {
     let most = usize::try_from(MOST_NODES).expect("it is small") - 2;
     let per_level = level.before.len() + level.behind.len();
     let depth = (most - initializer.len() - 1) / per_level;
-    let mut file = empty_file(vec![declared_name(1), PLAIN_NAME, UNRESOLVED_NAME]);
+    let settled_name = Name { flags: name::BLOCK_SCOPED, ..PLAIN_NAME };
+    let mut file = empty_file(vec![declared_name(1), settled_name, UNRESOLVED_NAME]);
     file.nodes.extend_from_slice(initializer);
     file.nodes.extend(level.before.repeat(depth));
     file.nodes.push(Node { position: 9, ..node(kind::NAME, 0, SEARCHED, 0) });

@@ -14,6 +14,7 @@ use Rattle.links.proofs.leaf.passes_leaf.Lts as lts
 use Rattle.links.proofs.leaf.is_leaf.Reads as is-leaf-reads
 use Rattle.links.proofs.leaf.moves_leaf.Reads as moves-leaf-reads
 use Rattle.links.proofs.leaf.passes_name.Reads as passes-name-reads
+use Rattle.links.proofs.leaf.passes_name_by_facts.Reads as passes-name-by-facts-reads
 use Rattle.links.proofs.node.is_specific_id.Reads as is-specific-id-reads
 
 is-leaf-requires : tie.Need-is-leaf-requires
@@ -37,11 +38,17 @@ moves-leaf-requires c κs = search needs
 returns-4 : tie.Need-returns-4
 returns-4 c = let a = (c .before .before .before .before .before .before .before .before) .args in let l = sym ((c .before .before .before .before .before .before .is-leaf) .ensures) ∙ not-false ((c .before .before .before .before .before .before .is-leaf) .result) ((c .before .before .before .before .before .if1) .left) in λ _. record { bare = l; other = sym ((c .before .before .before .before .is-specific-id) .ensures) ∙ (c .before .before .before .if2) .left; passes = or-first (movesLeaf (a .n) (a .s)) (passesName (contextOf (read (a .file .now))) (a .n)) (sym ((c .before .moves-leaf) .ensures l) ∙ (c .if4) .taken) }
 
+passes-name-by-facts-requires : tie.Need-passes-name-by-facts-requires
+passes-name-by-facts-requires c κs = search needs
+
+returns-5 : tie.Need-returns-5
+returns-5 c = let a = (c .before .before .before .before .before .before .before .before .before .before) .args in let l = sym ((c .before .before .before .before .before .before .before .before .is-leaf) .ensures) ∙ not-false ((c .before .before .before .before .before .before .before .before .is-leaf) .result) ((c .before .before .before .before .before .before .before .if1) .left) in λ _. record { bare = l; other = sym ((c .before .before .before .before .before .before .is-specific-id) .ensures) ∙ (c .before .before .before .before .before .if2) .left; passes = or-second (movesLeaf (a .n) (a .s)) (passesName (contextOf (read (a .file .now))) (a .n)) ((c .before .passes-name-by-facts) .ensures ((c .if5) .taken)) }
+
 passes-name-requires : tie.Need-passes-name-requires
 passes-name-requires c κs = search needs
 
-returns-5 : tie.Need-returns-5
-returns-5 c = let a = (c .before .before .before .before .before .before .before .before .before) .args in let l = sym ((c .before .before .before .before .before .before .before .is-leaf) .ensures) ∙ not-false ((c .before .before .before .before .before .before .before .is-leaf) .result) ((c .before .before .before .before .before .before .if1) .left) in λ h. record { bare = l; other = sym ((c .before .before .before .before .before .is-specific-id) .ensures) ∙ (c .before .before .before .before .if2) .left; passes = or-second (movesLeaf (a .n) (a .s)) (passesName (contextOf (read (a .file .now))) (a .n)) (sym ((c .passes-name) .ensures) ∙ h) }
+returns-6 : tie.Need-returns-6
+returns-6 c = let a = (c .before .before .before .before .before .before .before .before .before .before .before) .args in let l = sym ((c .before .before .before .before .before .before .before .before .before .is-leaf) .ensures) ∙ not-false ((c .before .before .before .before .before .before .before .before .before .is-leaf) .result) ((c .before .before .before .before .before .before .before .before .if1) .left) in λ h. record { bare = l; other = sym ((c .before .before .before .before .before .before .before .is-specific-id) .ensures) ∙ (c .before .before .before .before .before .before .if2) .left; passes = or-second (movesLeaf (a .n) (a .s)) (passesName (contextOf (read (a .file .now))) (a .n)) (sym ((c .passes-name) .ensures) ∙ h) }
 
 pub passes-leaf-spec : {M : Type 1} → statement M
 passes-leaf-spec =
@@ -54,5 +61,7 @@ passes-leaf-spec =
     returns-3
     moves-leaf-requires
     returns-4
+    passes-name-by-facts-requires
+    returns-5
     passes-name-requires
-    returns-5)
+    returns-6)

@@ -17,7 +17,7 @@ use Rattle.links.proofs.value.value_behind_member.Tie as tie
 use Rattle.links.proofs.value.value_behind_member.Reads as reads
 use Rattle.links.proofs.value.value_behind_member.Lts as lts
 use Rattle.links.proofs.leaf.is_leaf.Reads as is-leaf-reads
-use Rattle.links.proofs.leaf.passes_name.Reads as passes-name-reads
+use Rattle.links.proofs.leaf.passes_name_by_facts.Reads as passes-name-by-facts-reads
 use Rattle.links.proofs.value.is_to_plain_member.Reads as is-to-plain-member-reads
 use Rattle.links.proofs.value.passes_object.Reads as passes-object-reads
 use Rattle.table.proofs.work_node.Reads as work-node-reads
@@ -54,34 +54,32 @@ returns-3 c = λ z. absurd (z refl)
 returns-4 : tie.Need-returns-4
 returns-4 c = λ z. absurd (z refl)
 
-passes-name-requires : tie.Need-passes-name-requires
-passes-name-requires c κs = search needs
+passes-name-by-facts-requires : tie.Need-passes-name-by-facts-requires
+passes-name-by-facts-requires c κs = search needs
 
 returns-5 : tie.Need-returns-5
 returns-5 c =
-    let a = (c .before .before .before .before .before .before .before .before .before .before .before .before .before .before) .args in
-    let p = (c .before .before .before .before .before .before .before .before .before .before .before .is-to-plain-member) .ensures (not-false ((c .before .before .before .before .before .before .before .before .before .before .before .is-to-plain-member) .result) ((c .before .before .before .before .before .before .before .before .before .before .if1) .left)) in
+    let a = (c .before .before .before .before .before .before .before .before .before .before .before .before) .args in
+    let p = (c .before .before .before .before .before .before .before .before .before .is-to-plain-member) .ensures (not-false ((c .before .before .before .before .before .before .before .before .before .is-to-plain-member) .result) ((c .before .before .before .before .before .before .before .before .if1) .left)) in
     let ctx = contextOf (read (a .file .now)) in
-    let still = name-unblocked ctx (objectAt (a .nodes .now) (a .at .0)) (subst (λ x. passesName ctx x ≡ true) ((c .before .before .before .before .before .before .before .before .work-node) .ensures) (sym ((c .before .passes-name) .ensures) ∙ (c .if6) .taken)) in
-    let bare = name-leaf (objectAt (a .nodes .now) (a .at .0)) (p .bare) (ap (λ x. x .kind) (sym ((c .before .before .before .before .before .before .before .before .work-node) .ensures)) ∙ (c .before .before .if5) .taken) in
-    λ _ known. enters-unblocked ctx (a .s) (a .nodes .now) (a .at .0) (a .n) p bare still (not-false (a .s .effect) ((c .before .before .before .before .before .before .if2) .left)) (ne-eqb (a .n .flags / 8 % 2) 1 ((c .before .before .before .before .if4) .left)) ((c .before .before .before .before .before .before .before .before .before .before .before .before .before .before) .pre .1 .1 .1 .0) ((c .before .before .before .before .before .before .before .before .before .before .before .before .before .before) .pre .1 .1 .1 .1 .0) ((c .before .before .before .before .before .before .before .before .before .before .before .before .before .before) .pre .1 .1 .1 .1 .1) known ((c .before .before .before .before .before .before .before .before .before .before .before .before .before .before) .pre .1 .1 .0)
-
-returns-6 : tie.Need-returns-6
-returns-6 c = λ z. absurd (z refl)
+    let passes = subst (λ x. passesName ctx x ≡ true) ((c .before .before .before .before .before .before .work-node) .ensures) ((c .before .passes-name-by-facts) .ensures ((c .if5) .taken)) in
+    let still = name-unblocked ctx (objectAt (a .nodes .now) (a .at .0)) passes in
+    let bare = name-leaf ctx (objectAt (a .nodes .now) (a .at .0)) (p .bare) passes in
+    λ _ known. enters-unblocked ctx (a .s) (a .nodes .now) (a .at .0) (a .n) p bare still (not-false (a .s .effect) ((c .before .before .before .before .if2) .left)) (ne-eqb (a .n .flags / 8 % 2) 1 ((c .before .before .if4) .left)) ((c .before .before .before .before .before .before .before .before .before .before .before .before) .pre .1 .1 .1 .0) ((c .before .before .before .before .before .before .before .before .before .before .before .before) .pre .1 .1 .1 .1 .0) ((c .before .before .before .before .before .before .before .before .before .before .before .before) .pre .1 .1 .1 .1 .1) known ((c .before .before .before .before .before .before .before .before .before .before .before .before) .pre .1 .1 .0)
 
 passes-object-requires : tie.Need-passes-object-requires
 passes-object-requires c κs = search needs
 
-returns-7 : tie.Need-returns-7
-returns-7 c =
+returns-6 : tie.Need-returns-6
+returns-6 c =
     let a = (c .before .before .before .before .before .before .before .before .before .before .before .before .before .before) .args in
     let p = (c .before .before .before .before .before .before .before .before .before .before .before .is-to-plain-member) .ensures (not-false ((c .before .before .before .before .before .before .before .before .before .before .before .is-to-plain-member) .result) ((c .before .before .before .before .before .before .before .before .before .before .if1) .left)) in
     let ctx = contextOf (read (a .file .now)) in
-    let q = subst (PassedObject ctx) ((c .before .before .before .before .before .before .before .before .work-node) .ensures) ((c .before .passes-object) .ensures ((c .if7) .taken)) in
+    let q = subst (PassedObject ctx) ((c .before .before .before .before .before .before .before .before .work-node) .ensures) ((c .before .passes-object) .ensures ((c .if6) .taken)) in
     λ _ known. enters-unblocked ctx (a .s) (a .nodes .now) (a .at .0) (a .n) p (q .bare) (q .unblocked) (not-false (a .s .effect) ((c .before .before .before .before .before .before .if2) .left)) (ne-eqb (a .n .flags / 8 % 2) 1 ((c .before .before .before .before .if4) .left)) ((c .before .before .before .before .before .before .before .before .before .before .before .before .before .before) .pre .1 .1 .1 .0) ((c .before .before .before .before .before .before .before .before .before .before .before .before .before .before) .pre .1 .1 .1 .1 .0) ((c .before .before .before .before .before .before .before .before .before .before .before .before .before .before) .pre .1 .1 .1 .1 .1) known ((c .before .before .before .before .before .before .before .before .before .before .before .before .before .before) .pre .1 .1 .0)
 
-returns-8 : tie.Need-returns-8
-returns-8 c = λ z. absurd (z refl)
+returns-7 : tie.Need-returns-7
+returns-7 c = λ z. absurd (z refl)
 
 pub value-behind-member-spec : {M : Type 1} → statement M
 value-behind-member-spec =
@@ -95,9 +93,8 @@ value-behind-member-spec =
     returns-2
     returns-3
     returns-4
-    passes-name-requires
+    passes-name-by-facts-requires
     returns-5
-    returns-6
     passes-object-requires
-    returns-7
-    returns-8)
+    returns-6
+    returns-7)
