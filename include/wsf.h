@@ -65,7 +65,7 @@ typedef struct {
  *
  * Stack: 14 KB for a small script and 76 KB for one of a few hundred nodes; where they are refused, 8
  * and 70 KB. The search recurses at most once for each level of a tree, and through most levels not at
- * all: the deepest trees that a file can hold (3,000 nodes) take 1.25 MB at the most that was seen. 2 MB
+ * all: the deepest trees that a file can hold (3,000 nodes) take 1.3 MB at the most that was seen. 2 MB
  * below the call are enough. The size is measured, not proved; the compiled code was seen to touch each
  * page of a frame in turn, so that a stack which is too small ends in the guard page.
  */

@@ -12,8 +12,8 @@ type Level = &'static [(u8, u8)];
 /// One node a level: await, yield, import, unary, static and private member, callee, callee of new,
 /// private in, array, template, tag. Then the right side of a binary and of a logical operator, the
 /// second branch, the value of an assignment, the last of a sequence, an argument. Last, by calls of
-/// the search for each level: the value of a computed member's assignment, and an array behind an
-/// empty one, which takes the most stack.
+/// the search for each level: the value of a computed member's assignment, and an array behind a
+/// `yield`, which takes the most stack.
 const LEVELS: [Level; 20] = [
     &[(6, 1)],
     &[(7, 1)],
@@ -34,7 +34,7 @@ const LEVELS: [Level; 20] = [
     &[(28, 2), (1, 0)],
     &[(14, 2), (1, 0)],
     &[(20, 2), (12, 2), (1, 0), (1, 0)],
-    &[(21, 2), (21, 0)],
+    &[(21, 2), (7, 0)],
 ];
 
 const LITERAL: u8 = 1;

@@ -9,7 +9,7 @@ use crate::generate::damage::damaged_case;
 use crate::generate::exhaustive::{passed_files, small_files};
 use crate::generate::facts::facts;
 use crate::generate::limits::limits;
-use crate::generate::nests::nests;
+use crate::generate::nests::plain_nests;
 use crate::generate::random_file::random_file;
 use crate::generate::refusals::refusals;
 use crate::generate::rules::{Rule, rules};
@@ -56,7 +56,7 @@ fn answer_cases() -> Vec<Case> {
     cases.extend(shapes().iter().map(Shape::case));
     cases.extend(refusal_cases());
     cases.extend(limits().into_iter().filter(|case| !case.bulk));
-    cases.extend(nests().iter().map(|(what, file)| Case::of_records(what, file)));
+    cases.extend(plain_nests().iter().map(|(what, file)| Case::of_records(what, file)));
     cases.extend(fact_cases());
     cases.extend(small_cases());
     cases.extend(passed_cases());

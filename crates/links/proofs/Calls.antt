@@ -4,7 +4,7 @@ use mathlib.Core.Bool.{Bool, true, false, cond, _&&_, _||_}
 use mathlib.Core.List.{List, _++_}
 use mathlib.Core.Path.{_≡_, refl, sym, ap, _∙_, subst}
 use lib.Dec.{eqb}
-use borrow.Author.Tests.{eqb-true}
+use borrow.Author.Tests.{eqb-true, eqb-false}
 use Rattle.records.specs.Flags.{optional}
 use Rattle.records.specs.Place.{isExpression}
 use Rattle.records.specs.Record.{nodeAt}
@@ -52,6 +52,9 @@ module _ (n : NodeRecord) (call : (eqb (n .kind) 14 || eqb (n .kind) 15 || eqb (
   unfolding nodeOf
   no-name = by-kind (λ k. eqb k 4 ≡ false) refl refl refl
 
+  unassigned : n .kind ≡ 20 → ⊥
+  unassigned = eqb-false (n .kind) 20 (by-kind (λ k. eqb k 20 ≡ false) refl refl refl)
+
   no-property : is 26 (nodeOf n) ≡ false
   unfolding nodeOf
   no-property = by-kind (λ k. eqb k 26 ≡ false) refl refl refl
@@ -73,10 +76,10 @@ module _ (n : NodeRecord) (call : (eqb (n .kind) 14 || eqb (n .kind) 15 || eqb (
     on-children some w replacement d pre m kids rest t b =
         let z : nodeOf n ≡ m = ap nodeOf (node-is e t) ∙ node-of m (count kids) in
         let h = f pre m kids rest t in
-        let p = by-choice n s some no-name kept looked ctx (s .name .0) replacement d (choice n) kids (sym (callee replacement d kids h)) (sym (tag replacement d kids h)) in
+        let p = by-choice n s some unassigned no-name kept looked ctx (s .name .0) replacement d (choice n) kids (sym (callee replacement d kids h)) (sym (tag replacement d kids h)) in
         let g : planned (linkPlan s (shape (nodeOf n))) ≡ plan ctx (s .name .0) replacement (shape m) m kids =
         ap (λ x. planned (linkPlan s x)) shape-is ∙ p ∙ ap (λ x. plan ctx (s .name .0) replacement x (nodeOf n) kids) (sym shape-is) ∙ ap (λ x. plan ctx (s .name .0) replacement (shape x) x kids) z in
         rw (← g) (w replacement d (pre ++ workBytes (recordOf m (count kids))) kids rest (inside t) (counted n e t) b)
 
     pub enters-call : (n .children ≡ 0 → ⊥) → Searchable table at → EntersAt ctx s table at 1
-    enters-call some h = enters-by ctx s n e h some no-name kept looked steady (λ table′ r w. on-children some w)
+    enters-call some h = enters-by ctx s n e h some unassigned no-name kept looked steady (λ table′ r w. on-children some w)

@@ -1,5 +1,5 @@
 -- The search down through links. Assumes nothing.
-use Prim.Native.Nat.{ℕ, _+_, _*_, _-_, _≤_, _<_}
+use Prim.Native.Nat.{ℕ, _+_, _*_, _≤_, _<_}
 use native.Mathlib.Omega.{arith}
 use mathlib.Core.Bool.{Bool, true, false, cond, _||_}
 use mathlib.Core.List.{List, _++_}
@@ -65,7 +65,7 @@ plan-enters s (steps cuts) = by-test isNothing (s .effect) All refl refl
 plan-enters s (steps picks) = by-test isNothing (s .effect) Test refl refl
 
 -- A link, by its shape.
-module _ (n : NodeRecord) (s : Sought) (some : n .children ≡ 0 → ⊥) (other : is 4 (nodeOf n) ≡ false) (kept : cleared (nodeOf n) .flags ≡ n .flags) (looks : linkLooks n ≡ ownLooks (nodeOf n)) where
+module _ (n : NodeRecord) (s : Sought) (some : n .children ≡ 0 → ⊥) (unassigned : n .kind ≡ 20 → ⊥) (other : is 4 (nodeOf n) ≡ false) (kept : cleared (nodeOf n) .flags ≡ n .flags) (looks : linkLooks n ≡ ownLooks (nodeOf n)) where
   pub by-choice : (ctx : Context) (name : ℕ) (replacement : Tree) → Describes s replacement → (c : Choice) (kids : Trees) → keepsCallee replacement (nodeOf n) kids ≡ false → keepsIndirect name replacement (nodeOf n) kids ≡ false
       → planned (linkPlan s (steps c)) ≡ plan ctx name replacement (steps c) (nodeOf n) kids
   unfolding plan planFor
@@ -79,6 +79,7 @@ module _ (n : NodeRecord) (s : Sought) (some : n .children ≡ 0 → ⊥) (other
   link-steps c e k i = record {
     some = some;
     other = other;
+    unassigned = unassigned;
     kept = kept;
     looks = looks;
     steady = λ ctx replacement kids. sym (ap (λ x. stopsIn ctx replacement x kids) e);
@@ -90,6 +91,7 @@ module _ (n : NodeRecord) (s : Sought) (some : n .children ≡ 0 → ⊥) (other
   link-shaped x e t w = record {
     some = some;
     other = other;
+    unassigned = unassigned;
     kept = kept;
     looks = looks;
     steady = λ ctx replacement kids. t ctx replacement kids ∙ sym (ap (λ y. stopsIn ctx replacement y kids) e);

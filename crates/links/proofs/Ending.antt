@@ -1,10 +1,11 @@
 -- Where the search ended in the only child of a node, it ended in the node. Assumes nothing.
 use Prim.Native.Nat.{ℕ, _+_, _-_, _*_, _≤_, _<_}
 use native.Mathlib.Omega.{arith}
-use mathlib.Core.Bool.{Bool, false}
+use mathlib.Core.Bool.{Bool, true, false, cond, _&&_, not}
 use mathlib.Core.List.{List}
 use mathlib.Core.Path.{_≡_, refl, sym, ap, _∙_, subst}
 use lib.ListN.{length}
+use lib.Dec.{eqb}
 use Rattle.records.specs.Record.{nodeAt}
 use Rattle.records.specs.Tree.{nodeOf}
 use Rattle.records.specs.declared.layout.NodeRecord.{NodeRecord}
@@ -17,12 +18,12 @@ use Rattle.plans.specs.Answers.{isPassed}
 use Rattle.plans.specs.Described.{Known}
 use Rattle.plans.specs.Search.{Searchable, Searches}
 use Rattle.links.specs.OfNode.{gather, behind}
-use Rattle.links.specs.Links.{no-leaves, planAt, Reaches, Links, LinksTo}
+use Rattle.links.specs.Links.{no-trees, planAt, Reaches, Links, LinksTo}
 use Rattle.links.specs.Above.{Within, Carries, CarriesEnded}
 use Rattle.links.proofs.OfNode.{of-clearing}
 use Rattle.links.proofs.Nodes.{one-searched}
 use Rattle.links.proofs.Going.{gather-none, gather-both, goes-to}
-use Rattle.links.proofs.LeavesBefore.{children-no-leaf, above-same, is-above}
+use Rattle.links.proofs.TreesBefore.{above-same, is-above}
 use Rattle.links.proofs.Chain.{record-was, behind-searched, same-flags}
 use Rattle.links.proofs.WayBack.{last-link, within-looks, within-same}
 
@@ -38,18 +39,28 @@ module _ (ctx : Context) (s : Sought) {table₀ table : List ℕ} {at child befo
       behind-searched ctx s k g v n refl row
       (of-clearing ctx table at false s (behind false a) (gather false (ownLooks (nodeOf n)) a) n (n .flags) (ownLooks (nodeOf n)) table kept (sym (same-flags table at)) refl h refl)
 
+and-false : (b : Bool) → (b && false) ≡ false
+and-false true = refl
+and-false false = refl
+
+either-none : (b : Bool) → _≡_ {A = ℕ} (cond b 0 0) 0
+either-none true = refl
+either-none false = refl
+
 -- The node before the tree in which the search ended has no other child.
 module _ (ctx : Context) (s : Sought) {table₀ table : List ℕ} {at end looks : ℕ} {w : Walked} (k : Known s) (g : Within ctx s table₀ table at end looks w) (l : at < end) (h : isPassed (w .answer) ≡ false) (n : NodeRecord) (e : n ≡ nodeAt table (16 * (end - 1))) (one : n .children ≡ 1) where
   pub ended-above : (own : ℕ) → own ≡ ownLooks (nodeOf n) → (own ≤ looks) × Within ctx s table₀ table at (end - 1) (looks - own) (gather false own w)
   ended-above own o =
       let (next, before, left, seen, extra, effect, r) = last-link (g .links) l in
-      let (i, b, m, x, y) = is-above table end (end - 1) 0 false n e (children-no-leaf n (λ z. omega (arith, z, one))) (no-leaves (omega (arith, l))) (λ z. omega (arith, z, one, l)) (above-same (λ j p. sym (within-same ctx s k g j p)) (r .reaches .above)) in
+      let (i, b, m, x, y) = is-above table end (end - 1) 0 0 false n e (no-trees (omega (arith, l))) (omega (arith, one)) (above-same (λ j p. sym (within-same ctx s k g j p)) (r .reaches .above)) (omega (arith, r .reaches .above .later)) in
+      let quiet = x ∙ and-false (not (eqb (n .kind) 20)) in
+      let none = y ∙ either-none (eqb (n .kind) 20) in
       let was : own ≡ ownLooks (nodeOf (nodeAt table₀ (16 * next))) = o ∙ ap (λ z. ownLooks (nodeOf z)) (e ∙ ap (λ j. nodeAt table (16 * j)) i ∙ within-same ctx s k g next (r .reaches .above .later)) in
       let here : own ≡ ownLooks (nodeOf (nodeAt table (16 * next))) = o ∙ ap (λ z. ownLooks (nodeOf z)) (e ∙ ap (λ j. nodeAt table (16 * j)) i) in
-      let did = ended-in ctx s k (r .reaches) (g .did) (omega (arith, m, b, one, l)) h in
-      let same : gather false (ownLooks (nodeOf (nodeAt table (16 * next)))) (gather effect extra w) ≡ gather false own w = rw (← here, x, y) (gather-both false false own 0 w ∙ ap (λ j. gather false j w) (omega arith)) in
-      let z : seen ≡ looks - own = omega (arith, r .all, was, y) in (
-        omega (arith, r .all, was, y),
+      let did = ended-in ctx s k (r .reaches) (g .did) (omega (arith, m, b, one)) h in
+      let same : gather false (ownLooks (nodeOf (nodeAt table (16 * next)))) (gather effect extra w) ≡ gather false own w = rw (← here, quiet, none) (gather-both false false own 0 w ∙ ap (λ j. gather false j w) (omega arith)) in
+      let z : seen ≡ looks - own = omega (arith, r .all, was, none) in (
+        omega (arith, r .all, was, none),
         record {
           links = subst (Links ctx s table₀ at (end - 1)) z (subst (λ j. Links ctx s table₀ at j seen) (sym i) (r .links));
           here = subst (Searchable table₀) (sym i) (r .reaches .here);

@@ -22,7 +22,7 @@ use Rattle.walk.specs.Unsettled.{unsettled}
 use Rattle.walk.specs.Looks.{ownLooks, looksInExpression, looksInChildren}
 use Rattle.walk.specs.Substitute.{passed, isSpecificId, substituteInExpression, substituteInChildren}
 use Rattle.plans.specs.declared.shape.Shape.{Shape}
-use Rattle.plans.specs.declared.shape.Shape.the-variants.{Constant, Identifier, TargetName, Leaf}
+use Rattle.plans.specs.declared.shape.Shape.the-variants.{Constant, Identifier, TargetName, Leaf, Steps}
 use Rattle.plans.specs.declared.sought.Sought.{Sought}
 use Rattle.plans.specs.declared.walked.Answer.the-variants.{Passed}
 use Rattle.plans.specs.declared.walked.Walked.{Walked}
@@ -63,8 +63,8 @@ pub either-way : {A : Type 0} (a b : Bool) → (a || b) ≡ true → (a ≡ true
 either-way true b h f g = f refl
 either-way false b h f g = g h
 
-by-kind : (P : ℕ → Type 0) → P 0 → P 1 → P 2 → P 3 → P 4 → P 5 → P 27 → P 29 → P 30 → (k : ℕ) → leafKind k ≡ true → P k
-by-kind P p0 p1 p2 p3 p4 p5 p27 p29 p30 k h =
+by-kind : (P : ℕ → Type 0) → P 0 → P 1 → P 2 → P 3 → P 4 → P 5 → P 21 → P 22 → P 23 → P 27 → P 29 → P 30 → (k : ℕ) → leafKind k ≡ true → P k
+by-kind P p0 p1 p2 p3 p4 p5 p21 p22 p23 p27 p29 p30 k h =
     let at : (c : ℕ) → P c → eqb k c ≡ true → P k = λ c p e. subst P (sym (eqb-true k c e)) p in
     either-way _ _ h
     (λ h. either-way _ _ h
@@ -73,31 +73,39 @@ by-kind P p0 p1 p2 p3 p4 p5 p27 p29 p30 k h =
     (λ h. either-way _ _ h
     (λ h. either-way _ _ h
     (λ h. either-way _ _ h
-    (λ h. either-way _ _ h (at 0 p0) (at 1 p1)) (at 2 p2)) (at 3 p3)) (at 4 p4)) (at 5 p5)) (at 27 p27)) (at 29 p29)) (at 30 p30)
+    (λ h. either-way _ _ h
+    (λ h. either-way _ _ h
+    (λ h. either-way _ _ h
+    (λ h. either-way _ _ h (at 0 p0) (at 1 p1)) (at 2 p2)) (at 3 p3)) (at 4 p4)) (at 5 p5)) (at 21 p21)) (at 22 p22)) (at 23 p23)) (at 27 p27)) (at 29 p29)) (at 30 p30)
 
 leaf-kind : (n : NodeRecord) → isLeaf n ≡ true → leafKind (n .kind) ≡ true
 leaf-kind n h = and-right (eqb (n .children) 0) (leafKind (n .kind)) h
 
--- a leaf that is neither a constant nor a name: a target name, or another
-abbrev otherShape : Bool → Shape
-otherShape true = TargetName
-otherShape false = Leaf
+-- a leaf that is neither a constant nor a name: a target name; an array, an object or a template; or another
+abbrev otherShape : Bool → Bool → Shape
+otherShape true list = TargetName
+otherShape false true = Steps
+otherShape false false = Leaf
+
+abbrev isList : ℕ → Bool
+isList k = eqb k 21 || eqb k 22 || eqb k 23
 
 -- the shape of a kind without flags, label and position, which say nothing of a leaf
 abbrev kindShape : NodeRecord → ℕ → Type 0
-kindShape n k = n .kind ≡ k → (eqb k 1 || eqb k 2 || eqb k 27) ≡ false → eqb k 4 ≡ false → shaped (otherShape (eqb k 29)) ≡ shapeOf (nodeOf n)
+kindShape n k = n .kind ≡ k → (eqb k 1 || eqb k 2 || eqb k 27) ≡ false → eqb k 4 ≡ false → shaped (otherShape (eqb k 29) (isList k)) ≡ shapeOf (nodeOf n)
 
-other-shape : (n : NodeRecord) → (is 1 (nodeOf n) || is 2 (nodeOf n) || is 27 (nodeOf n)) ≡ false → is 4 (nodeOf n) ≡ false → isLeaf n ≡ true → shaped (otherShape (is 29 (nodeOf n))) ≡ shapeOf (nodeOf n)
+other-shape : (n : NodeRecord) → (is 1 (nodeOf n) || is 2 (nodeOf n) || is 27 (nodeOf n)) ≡ false → is 4 (nodeOf n) ≡ false → isLeaf n ≡ true → shaped (otherShape (is 29 (nodeOf n)) (isList (n .kind))) ≡ shapeOf (nodeOf n)
 unfolding nodeOf shapeOf
 other-shape n c i k =
     by-kind (kindShape n)
-    (λ e c i. rw e refl) (λ e c i. clash true c refl) (λ e c i. clash true c refl) (λ e c i. rw e refl) (λ e c i. clash true i refl) (λ e c i. rw e refl) (λ e c i. clash true c refl) (λ e c i. rw e refl) (λ e c i. rw e refl)
+    (λ e c i. rw e refl) (λ e c i. clash true c refl) (λ e c i. clash true c refl) (λ e c i. rw e refl) (λ e c i. clash true i refl) (λ e c i. rw e refl) (λ e c i. rw e refl) (λ e c i. rw e refl) (λ e c i. rw e refl) (λ e c i. clash true c refl) (λ e c i. rw e refl) (λ e c i. rw e refl)
     (n .kind) (leaf-kind n k) refl c i
 
 -- no target ends the search of one
-steady-leaf : (ctx : Context) (target : Bool) (replacement : Tree) (kids : Trees) → false ≡ stopsIn ctx replacement (shaped (otherShape target)) kids
-steady-leaf ctx true replacement kids = refl
-steady-leaf ctx false replacement kids = refl
+steady-leaf : (ctx : Context) (target list : Bool) (replacement : Tree) (kids : Trees) → false ≡ stopsIn ctx replacement (shaped (otherShape target list)) kids
+steady-leaf ctx true list replacement kids = refl
+steady-leaf ctx false true replacement kids = refl
+steady-leaf ctx false false replacement kids = refl
 
 -- whether it may be passed
 module _ (ctx : Context) (n : NodeRecord) (s : Sought) (own : Bool) where
@@ -105,10 +113,11 @@ module _ (ctx : Context) (n : NodeRecord) (s : Sought) (own : Bool) where
   unfolding passBy
   pass-constant replacement d kids o k t = pass-by ctx n s replacement d kids own false o k Constant false t (unsettled ctx (n .label)) refl
 
-  pass-leaf : (target : Bool) → MayPass ctx (otherShape target) n s own false false (reorders s own)
+  pass-leaf : (target list : Bool) → MayPass ctx (otherShape target list) n s own false false (reorders s own)
   unfolding passBy
-  pass-leaf true replacement d kids o k t = ap (reorders s) (sym (or-false own)) ∙ pass-by ctx n s replacement d kids own false o k TargetName false t (unsettled ctx (n .label)) refl
-  pass-leaf false replacement d kids o k t = ap (reorders s) (sym (or-false own)) ∙ pass-by ctx n s replacement d kids own false o k Leaf false t (unsettled ctx (n .label)) refl
+  pass-leaf true list replacement d kids o k t = ap (reorders s) (sym (or-false own)) ∙ pass-by ctx n s replacement d kids own false o k TargetName false t (unsettled ctx (n .label)) refl
+  pass-leaf false true replacement d kids o k t = ap (reorders s) (sym (or-false own)) ∙ pass-by ctx n s replacement d kids own false o k Steps false t (unsettled ctx (n .label)) refl
+  pass-leaf false false replacement d kids o k t = ap (reorders s) (sym (or-false own)) ∙ pass-by ctx n s replacement d kids own false o k Leaf false t (unsettled ctx (n .label)) refl
 
   pass-moved-name : reorders s own ≡ true → MayPass ctx Identifier n s own false false true
   pass-moved-name h replacement d kids o k t =
@@ -151,7 +160,7 @@ module _ (ctx : Context) (s : Sought) (at : NodeId) (n : NodeRecord) (own : Bool
       by : (constant : Bool) → (eqb (n .kind) 1 || eqb (n .kind) 2 || eqb (n .kind) 27) ≡ constant → (name : Bool) → eqb (n .kind) 4 ≡ name → (constant || reorders s own) ≡ true → OfLeaf ctx (at .0) n s q
       by true c name i h = leaf-searched Constant true (pass-constant ctx n s own) (λ R kids. refl) (λ k. constant-shape (nodeOf n) c) r
       by false c true i h = leaf-searched Identifier true (pass-moved-name ctx n s own h) (λ R kids. refl) (λ k. name-shape (nodeOf n) i) r
-      by false c false i h = leaf-searched (otherShape (is 29 (nodeOf n))) true (subst (MayPass ctx (otherShape (is 29 (nodeOf n))) n s own false false) h (pass-leaf ctx n s own (is 29 (nodeOf n)))) (steady-leaf ctx (is 29 (nodeOf n))) (λ k. other-shape n c i k) r
+      by false c false i h = leaf-searched (otherShape (is 29 (nodeOf n)) (isList (n .kind))) true (subst (MayPass ctx (otherShape (is 29 (nodeOf n)) (isList (n .kind))) n s own false false) h (pass-leaf ctx n s own (is 29 (nodeOf n)) (isList (n .kind)))) (steady-leaf ctx (is 29 (nodeOf n)) (isList (n .kind))) (λ k. other-shape n c i k) r
 
   leaf-name : {q : Walked} (blocks : Bool) → eqb (n .kind) 4 ≡ true → reorders s own ≡ false → blocks ≡ unsettled ctx (n .label) → q ≡ byPassing (not blocks) next own looks → OfLeaf ctx (at .0) n s q
   unfolding nodeOf
@@ -159,7 +168,7 @@ module _ (ctx : Context) (s : Sought) (at : NodeId) (n : NodeRecord) (own : Bool
 
   leaf-stopped : {q : Walked} → (eqb (n .kind) 1 || eqb (n .kind) 2 || eqb (n .kind) 27) ≡ false → eqb (n .kind) 4 ≡ false → reorders s own ≡ false → q ≡ byPassing false next own looks → OfLeaf ctx (at .0) n s q
   unfolding nodeOf
-  leaf-stopped c i m r = leaf-searched (otherShape (is 29 (nodeOf n))) false (subst (MayPass ctx (otherShape (is 29 (nodeOf n))) n s own false false) m (pass-leaf ctx n s own (is 29 (nodeOf n)))) (steady-leaf ctx (is 29 (nodeOf n))) (λ k. other-shape n c i k) r
+  leaf-stopped c i m r = leaf-searched (otherShape (is 29 (nodeOf n)) (isList (n .kind))) false (subst (MayPass ctx (otherShape (is 29 (nodeOf n)) (isList (n .kind))) n s own false false) m (pass-leaf ctx n s own (is 29 (nodeOf n)) (isList (n .kind)))) (steady-leaf ctx (is 29 (nodeOf n)) (isList (n .kind))) (λ k. other-shape n c i k) r
 
   pub leaf-by : {q : Walked} (pass : Bool) → pass ≡ (movesLeaf n s || passesName ctx n) → q ≡ byPassing pass next own looks → OfLeaf ctx (at .0) n s q
   leaf-by {q} pass w r = by (eqb (n .kind) 1 || eqb (n .kind) 2 || eqb (n .kind) 27 || reorders s own) refl (eqb (n .kind) 4) refl (subst (λ x. pass ≡ ((eqb (n .kind) 1 || eqb (n .kind) 2 || eqb (n .kind) 27 || reorders s x) || passesName ctx n)) (sym o) w)
@@ -177,7 +186,7 @@ moves-literal n s h = or-second (eqb (n .kind) 1 || eqb (n .kind) 2 || eqb (n .k
 -- The effect and the looks of a leaf, by its kind.
 pub leaf-marked : (n : NodeRecord) → isLeaf n ≡ true → marked (n .flags) ≡ hasEffect (nodeOf n)
 unfolding nodeOf hasEffect
-leaf-marked n h = by-kind (λ k. marked (n .flags) ≡ (marked (n .flags) || eqb k 6 || eqb k 7 || eqb k 8 || eqb k 20)) off off off off off off off off off (n .kind) (leaf-kind n h)
+leaf-marked n h = by-kind (λ k. marked (n .flags) ≡ (marked (n .flags) || eqb k 6 || eqb k 7 || eqb k 8 || eqb k 20)) off off off off off off off off off off off off (n .kind) (leaf-kind n h)
   where
     no-more : (b : Bool) → b ≡ (b || false || false || false || false)
     no-more true = refl
@@ -186,6 +195,6 @@ leaf-marked n h = by-kind (λ k. marked (n .flags) ≡ (marked (n .flags) || eqb
     off : marked (n .flags) ≡ (marked (n .flags) || false || false || false || false)
     off = no-more (marked (n .flags))
 
-pub leaf-looked : (n : NodeRecord) → isLeaf n ≡ true → one (ltb (n .kind) 6) ≡ ownLooks (nodeOf n)
+pub leaf-looked : (n : NodeRecord) → isLeaf n ≡ true → one (ltb (n .kind) 25) ≡ ownLooks (nodeOf n)
 unfolding nodeOf ownLooks isExpression
-leaf-looked n h = by-kind (λ k. one (ltb k 6) ≡ one (ltb k 25 || eqb k 28 || eqb k 26 && computed (n .flags) && proto (n .flags))) refl refl refl refl refl refl refl refl refl (n .kind) (leaf-kind n h)
+leaf-looked n h = by-kind (λ k. one (ltb k 25) ≡ one (ltb k 25 || eqb k 28 || eqb k 26 && computed (n .flags) && proto (n .flags))) refl refl refl refl refl refl refl refl refl refl refl refl (n .kind) (leaf-kind n h)

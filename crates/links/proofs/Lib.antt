@@ -10,12 +10,13 @@ pub mod Nodes
 pub mod Going
 pub mod ShapeCases
 pub mod PlansBehind
-pub mod LeavesBefore
+pub mod TreesBefore
 pub mod Chain
 pub mod WayBack
 pub mod Reaching
 pub mod Values
 pub mod Moving
+pub mod Items
 pub mod LinkKinds
 pub mod Calls
 pub mod Ending

@@ -1,10 +1,10 @@
--- A link that may change places with the tree to place: it is passed where its children are.
+-- A link that may change places with the tree to place, or a property: it is passed where its children are.
 use Prim.Native.Nat.{ℕ, _+_}
-use mathlib.Core.Bool.{Bool, true, false, _&&_, _||_, not}
+use mathlib.Core.Bool.{Bool, true, false, cond, _&&_, _||_, not}
 use mathlib.Core.List.{List}
 use mathlib.Core.Path.{_≡_, refl, sym, ap, _∙_, subst}
 use lib.Dec.{eqb}
-use borrow.Author.Tests.{not-true}
+use borrow.Author.Tests.{not-true, eqb-true}
 use Rattle.records.specs.Flags.{computed}
 use Rattle.records.specs.Tree.{Node, nodeOf}
 use Rattle.records.specs.declared.layout.NodeRecord.{NodeRecord}
@@ -88,18 +88,32 @@ moving-shape : (m : Node) → is 25 m ≡ false → is 26 m ≡ false → moving
 moving-shape m k25 k26 =
     shape-by (λ x. moving x ≡ true) m refl refl refl refl refl refl refl refl (λ h. clash (is 26 m) k26 h) (λ h. clash (is 25 m) k25 h) refl (λ _. refl) (λ _. refl) (λ _. refl) refl
 
-module _ (ctx : Context) (n : NodeRecord) (s : Sought) (own children : Bool) (h : movesLink n s (own || children) ≡ true) where
-  may-move : (x : Shape) → shaped x ≡ shapeOf (nodeOf n) → MayPass ctx x n s own children false true
+module _ (ctx : Context) (n : NodeRecord) (s : Sought) (own children : Bool) where
+  may-move : (x : Shape) → shaped x ≡ shapeOf (nodeOf n) → eqb (n .kind) 26 ≡ false → (not (eqb (n .kind) 25) && reorders s (own || children)) ≡ true → MayPass ctx x n s own children false true
   unfolding nodeOf
-  may-move x e replacement d kids o k t =
-      let (a, m) = both (not (eqb (n .kind) 25 || eqb (n .kind) 26)) (reorders s (own || children)) h in
-      let (k25, k26) = neither (eqb (n .kind) 25) (eqb (n .kind) 26) (not-true (eqb (n .kind) 25 || eqb (n .kind) 26) a) in
-      sym (moved x (unsettled ctx (n .label)) (not (s .effect) && not children) (computed (n .flags)) (ap moving e ∙ moving-shape (nodeOf n) k25 k26))
+  may-move x e k26 h replacement d kids o k t =
+      let (k25, m) = both (not (eqb (n .kind) 25)) (reorders s (own || children)) h in
+      sym (moved x (unsettled ctx (n .label)) (not (s .effect) && not children) (computed (n .flags)) (ap moving e ∙ moving-shape (nodeOf n) (not-true (eqb (n .kind) 25) k25) k26))
       ∙ subst (λ r. passBy x r (unsettled ctx (n .label)) (not (s .effect) && not children) (computed (n .flags)) false ≡ passBy x (reorders s (own || children)) (unsettled ctx (n .label)) (not (s .effect) && not children) (computed (n .flags)) false) m refl
       ∙ pass-by ctx n s replacement d kids own children o k x false t (unsettled ctx (n .label)) refl
 
+  -- a property, by its key
+  is-property : n .kind ≡ 26 → computed (n .flags) ≡ false → shaped Property ≡ shapeOf (nodeOf n)
+  unfolding nodeOf shapeOf
+  is-property e h = rw (e, h) refl
+
+  may-move-property : computed (n .flags) ≡ false → MayPass ctx Property n s own children false true
+  unfolding passBy
+  may-move-property h replacement d kids o k t = ap not (sym h) ∙ pass-by ctx n s replacement d kids own children o k Property false t (unsettled ctx (n .label)) refl
+
   -- what the search does of such a link, where its children are passed
-  pub link-moved : (table : List ℕ) (at : ℕ) (a q : Walked) (looks : ℕ) → a .effect ≡ children → own ≡ hasEffect (nodeOf n) → looks ≡ ownLooks (nodeOf n) → isPassed (a .answer) ≡ true → q ≡ byPassing true (a .next) (own || a .effect) (looks + a .looks) → OfNode ctx table table at n false s a q
-  link-moved table at a q looks c o l p e =
-      let (x, z) = shape-for (shapeOf (nodeOf n)) in
-      of-passing ctx table at false s a q x n own true looks z o (subst (λ y. MayPass ctx x n s own y false true) (sym c) (may-move x z)) l p e
+  pub link-moved : movesLink n s (own || children) ≡ true → (table : List ℕ) (at : ℕ) (a q : Walked) (looks : ℕ) → a .effect ≡ children → own ≡ hasEffect (nodeOf n) → looks ≡ ownLooks (nodeOf n) → isPassed (a .answer) ≡ true → q ≡ byPassing true (a .next) (own || a .effect) (looks + a .looks) → OfNode ctx table table at n false s a q
+  link-moved h table at a q looks c o l p e = by (eqb (n .kind) 26) refl h
+    where
+      by : (b : Bool) → eqb (n .kind) 26 ≡ b → cond b (not (computed (n .flags))) (not (eqb (n .kind) 25) && reorders s (own || children)) ≡ true → OfNode ctx table table at n false s a q
+      by true k h =
+          let keyed = not-true (computed (n .flags)) h in
+          of-passing ctx table at false s a q Property n own true looks (is-property (eqb-true (n .kind) 26 k) keyed) o (subst (λ y. MayPass ctx Property n s own y false true) (sym c) (may-move-property keyed)) l p e
+      by false k h =
+          let (x, z) = shape-for (shapeOf (nodeOf n)) in
+          of-passing ctx table at false s a q x n own true looks z o (subst (λ y. MayPass ctx x n s own y false true) (sym c) (may-move x z k h)) l p e

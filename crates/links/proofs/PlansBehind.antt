@@ -1,5 +1,6 @@
 -- The plan for the children behind so many. Assumes nothing.
-use Prim.Native.Nat.{ℕ, zero, suc}
+use Prim.Native.Nat.{ℕ, zero, suc, _+_}
+use native.Mathlib.Omega.{arith}
 use mathlib.Core.Bool.{true, false}
 use mathlib.Core.Path.{_≡_, refl, ap, _∙_}
 use Rattle.records.proofs.Tests.{clash}
@@ -17,6 +18,14 @@ next-is First = refl
 next-is Nothing = refl
 next-is Test = refl
 next-is Branches = refl
+
+-- the plan behind one child more
+pub plan-next : (p : Plan) (before : ℕ) → planBehind p (before + 1) ≡ nextOf (planBehind p before)
+unfolding planBehind
+plan-next p before = ap (planBehind p) (one-further before)
+  where
+    one-further : (k : ℕ) → k + 1 ≡ suc k
+    one-further k = omega arith
 
 -- each child is entered
 pub onward-enters : (p : Plan) → onward p ≡ true → isNothing p ≡ false

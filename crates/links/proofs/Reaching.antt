@@ -1,41 +1,30 @@
 -- The child of a link that the search goes down to. Assumes nothing.
-use Prim.Native.Nat.{ℕ, suc, _+_, _*_, _-_, _≤_}
+use Prim.Native.Nat.{ℕ, _+_, _*_, _-_, _≤_}
 use native.Mathlib.Omega.{arith}
 use mathlib.Core.Bool.{Bool, true, false, _||_}
 use mathlib.Core.List.{List}
 use mathlib.Core.Path.{_≡_, refl, sym, ap, _∙_, subst}
-use lib.ListN.{length}
 use Rattle.records.specs.Record.{nodeAt}
 use Rattle.records.specs.Tree.{nodeOf}
 use Rattle.records.specs.declared.layout.NodeRecord.{NodeRecord}
 use Rattle.walk.specs.Context.{Context}
-use Rattle.walk.specs.Effect.{hasEffect}
 use Rattle.walk.specs.Shape.{is, shape, cleared}
 use Rattle.walk.specs.Looks.{ownLooks}
 use Rattle.plans.specs.declared.begin.Begun.{Begun}
-use Rattle.plans.specs.declared.plan.Plan.{Plan}
 use Rattle.plans.specs.declared.sought.Sought.{Sought}
-use Rattle.plans.specs.declared.walked.Answer.the-variants.{Passed}
 use Rattle.plans.specs.declared.walked.Walked.{Walked}
 use Rattle.plans.specs.Shapes.{planned}
 use Rattle.plans.specs.Begins.{BeginsAt}
 use Rattle.plans.specs.Described.{Known}
-use Rattle.plans.specs.Search.{Searchable, Searches, SearchesRow}
-use Rattle.links.specs.OfNode.{gather, isLeaf, PassedLeaf}
-use Rattle.links.specs.Links.{linkPlan, linkLooks, nextOf, planBehind, onward, IsLink, Goes, OfChildren, Steady, no-leaves, one-more, Between, past-leaves, past-target, Reaches, leftFrom, EntersAt, Links, start, link, Going, begun, through}
-use Rattle.links.proofs.Leaves.{leaf-by}
-use Rattle.links.proofs.Searching.{searchable-room, first-searchable}
+use Rattle.plans.specs.Search.{Searchable, SearchesRow}
+use Rattle.links.specs.OfNode.{gather}
+use Rattle.links.specs.Links.{linkPlan, linkLooks, planBehind, onward, IsLink, Goes, OfChildren, Steady, TreesBack, no-trees, Between, past-trees, past-target, Reaches, PassedItem, PassedNext, leftFrom, EntersAt, Links, start, link, Going, begun, through}
+use Rattle.links.proofs.TreesBefore.{back-on}
+use Rattle.links.proofs.Searching.{first-searchable}
 use Rattle.links.proofs.Nodes.{begun-row}
-use Rattle.links.proofs.PlansBehind.{next-is, onward-enters, onward-behind}
+use Rattle.links.proofs.PlansBehind.{next-is, plan-next, onward-enters, onward-behind}
 use Rattle.links.proofs.Going.{gather-none, goes-on}
 use Rattle.links.proofs.Chain.{plan-enters, children-row, link-children, link-steady, links-seen}
-
--- A leaf that is passed, as the search says it.
-abbrev passedLeaf : ℕ → NodeRecord → Walked
-passedLeaf at n = record { next = record { 0 = at + 1 }; place = record { 0 = at + 1 }; looks = ownLooks (nodeOf n); answer = Passed; effect = hasEffect (nodeOf n); indirect = false }
-
-leaf-is-passed : (ctx : Context) (s : Sought) {table : List ℕ} {at : ℕ} (n : NodeRecord) → n ≡ nodeAt table (16 * at) → PassedLeaf ctx s n → Searches ctx s table table at (passedLeaf at n)
-leaf-is-passed ctx s {table} {at} n e p = leaf-by ctx s (record { 0 = at }) n (hasEffect (nodeOf n)) refl (ownLooks (nodeOf n)) refl (record { 0 = at + 1 }) refl true (sym (p .passes)) refl table e (p .bare) (p .other)
 
 -- What the search of a node does from where it begins on.
 pub begun-goes : (ctx : Context) (s : Sought) {table : List ℕ} {at : ℕ} (g : Begun) → Known s → Searchable table at → BeginsAt ctx table at s g → g .indirect ≡ false
@@ -53,10 +42,10 @@ begun-goes ctx s g k h w i =
 
 module _ (ctx : Context) (s : Sought) {table : List ℕ} {at : ℕ} where
   -- the first child, of a node of which this is known
-  pub enters-by : (n : NodeRecord) → n ≡ nodeAt table (16 * at) → Searchable table at → (n .children ≡ 0 → ⊥) → is 4 (nodeOf n) ≡ false → cleared (nodeOf n) .flags ≡ n .flags → linkLooks n ≡ ownLooks (nodeOf n) → Steady ctx s table at
+  pub enters-by : (n : NodeRecord) → n ≡ nodeAt table (16 * at) → Searchable table at → (n .children ≡ 0 → ⊥) → (n .kind ≡ 20 → ⊥) → is 4 (nodeOf n) ≡ false → cleared (nodeOf n) .flags ≡ n .flags → linkLooks n ≡ ownLooks (nodeOf n) → Steady ctx s table at
       → ((table′ : List ℕ) (r : Walked) → SearchesRow ctx s table table′ (at + 1) (n .children) (linkPlan s (shape (nodeOf n))) r → OfChildren ctx s table at table′ r) → EntersAt ctx s table at 1
   unfolding planBehind
-  enters-by n e h some other kept looks steady on =
+  enters-by n e h some unassigned other kept looks steady on =
       let q = nodeAt table (16 * at) in
       let there : q .children ≡ 0 → ⊥ = λ z. some (ap (λ x. x .children) e ∙ z) in (
         0,
@@ -66,7 +55,7 @@ module _ (ctx : Context) (s : Sought) {table : List ℕ} {at : ℕ} where
           kept = subst (λ x. cleared (nodeOf x) .flags ≡ x .flags) e kept;
           own = subst (λ x. linkLooks x ≡ ownLooks (nodeOf x)) e looks;
           steady = steady;
-          above = record { later = omega arith; between = past-leaves {before = 0} (omega arith) (no-leaves refl); many = omega arith; some = there };
+          above = record { later = omega arith; between = past-trees (subst (λ x. x .kind ≡ 20 → ⊥) e unassigned) (no-trees refl); many = omega arith; some = there };
           enters = plan-enters s (shape (nodeOf q));
           goes = record {
             row = children-row h;
@@ -79,34 +68,23 @@ module _ (ctx : Context) (s : Sought) {table : List ℕ} {at : ℕ} where
       )
 
   pub enters-first : (n : NodeRecord) → n ≡ nodeAt table (16 * at) → Searchable table at → IsLink n s → EntersAt ctx s table at 1
-  enters-first n e h l = enters-by n e h (l .some) (l .other) (l .kept) (l .looks) (link-steady ctx s n e l) (λ table′ r w. link-children ctx s n e l w)
+  enters-first n e h l = enters-by n e h (l .some) (l .unassigned) (l .other) (l .kept) (l .looks) (link-steady ctx s n e l) (λ table′ r w. link-children ctx s n e l w)
 
   module _ {child before left : ℕ} {effect : Bool} {looks : ℕ} (g : Reaches ctx s table at child before left effect looks) where
     pub child-here : Searchable table child
     child-here = first-searchable (g .goes .row) (g .above .some)
 
-    pub child-room : 16 * child + 16 ≤ length table
-    child-room = searchable-room child-here
+-- one tree more stands between
+between-next : {table : List ℕ} {at child end before left looks m : ℕ} {effect x : Bool} → Between table at child before effect looks → left + before ≡ nodeAt table (16 * at) .children → 2 ≤ left → TreesBack table end child 1 x m
+    → Between table at end (before + 1) (effect || x) (looks + m)
+between-next (past-trees k ts) m l b = past-trees k (back-on ts b)
+between-next (past-target k t ts) m l b = absurd (omega (arith, t, m, l))
 
--- one leaf more stands between
-between-next : {table : List ℕ} {at child before left : ℕ} {effect : Bool} {looks : ℕ} → Between table at child before effect looks → left + before ≡ nodeAt table (16 * at) .children → 2 ≤ left → isLeaf (nodeAt table (16 * child)) ≡ true
-    → Between table at (child + 1) (before + 1) (effect || hasEffect (nodeOf (nodeAt table (16 * child)))) (looks + ownLooks (nodeOf (nodeAt table (16 * child))))
-between-next {before = before} (past-leaves e ls) m l h = past-leaves {before = before + 1} (omega (arith, e)) (one-more refl h ls)
-between-next (past-target t o c ls) m l h = absurd (omega (arith, t, m, l))
-
--- the plan behind one child more
-plan-next : (p : Plan) (before : ℕ) → planBehind p (before + 1) ≡ nextOf (planBehind p before)
-unfolding planBehind
-plan-next p before = ap (planBehind p) (one-further before)
-  where
-    one-further : (k : ℕ) → k + 1 ≡ suc k
-    one-further k = omega arith
-
--- the next one, behind a leaf that is passed
-pub reaches-next : (ctx : Context) (s : Sought) {table : List ℕ} {at child before left : ℕ} {effect : Bool} {looks : ℕ} → Reaches ctx s table at child before left effect looks → Known s → (n : NodeRecord) → n ≡ nodeAt table (16 * child)
-    → onward (linkPlan s (shape (nodeOf (nodeAt table (16 * at))))) ≡ true → PassedLeaf ctx s n → 2 ≤ left
-    → Reaches ctx s table at (child + 1) (before + 1) (left - 1) (effect || hasEffect (nodeOf (nodeAt table (16 * child)))) (looks + ownLooks (nodeOf (nodeAt table (16 * child))))
-reaches-next ctx s {table} {at} {child} {before} {left} {effect} {looks} g k n e p l m =
+-- the next one, behind a tree that is passed at once
+pub reaches-next : (ctx : Context) (s : Sought) {table : List ℕ} {at child before left : ℕ} {effect : Bool} {looks many own : ℕ} → Reaches ctx s table at child before left effect looks → Known s
+    → onward (linkPlan s (shape (nodeOf (nodeAt table (16 * at))))) ≡ true → (i : PassedItem ctx s table child many own) → 2 ≤ left
+    → Reaches ctx s table at (child + many) (before + 1) (left - 1) (effect || i .effect) (looks + own)
+reaches-next ctx s {table} {at} {child} {before} {left} {effect} {looks} g k p i m =
     let q = linkPlan s (shape (nodeOf (nodeAt table (16 * at)))) in
     record {
       here = g .here;
@@ -116,13 +94,12 @@ reaches-next ctx s {table} {at} {child} {before} {left} {effect} {looks} g k n e
       steady = g .steady;
       above = record {
         later = omega (arith, g .above .later);
-        between = between-next (g .above .between) (g .above .many) m (subst (λ x. isLeaf x ≡ true) e (l .bare));
+        between = between-next (g .above .between) (g .above .many) m (i .back);
         many = omega (arith, g .above .many, m);
         some = λ z. omega (arith, z, m);
       };
       enters = onward-enters (planBehind q (before + 1)) (onward-behind q (before + 1) p);
-      goes = subst (λ x. Goes ctx s (OfChildren ctx s table at) (at + 1) table (child + 1) (left - 1) (planBehind q (before + 1)) (effect || hasEffect (nodeOf x)) (looks + ownLooks (nodeOf x))) e
-          (goes-on ctx s (planBehind q (before + 1)) k (g .goes) (g .enters) (leaf-is-passed ctx s n e l) (g .above .some) refl refl (ap planned (plan-next q before) ∙ next-is (planBehind q before)));
+      goes = goes-on ctx s (planBehind q (before + 1)) k (g .goes) (g .enters) (i .did) (g .above .some) refl refl (ap planned (plan-next q before) ∙ next-is (planBehind q before));
     }
 
 -- On the way down.
@@ -134,14 +111,14 @@ module _ (ctx : Context) (s : Sought) {table : List ℕ} {at next left : ℕ} {a
   pub going-seen : {looks : ℕ} → Going ctx s table at next left above looks → at + looks ≤ next
   going-seen g = links-seen (going-links g)
 
-  -- past a leaf
-  pub going-on : {looks : ℕ} → Known s → Going ctx s table at next left above looks → (n : NodeRecord) → n ≡ nodeAt table (16 * next) → 2 ≤ left → onward (linkPlan s (shape (nodeOf above))) ≡ true → PassedLeaf ctx s n
-      → (own : ℕ) → own ≡ ownLooks (nodeOf n) → Searchable table (next + 1) × Going ctx s table at (next + 1) (left - 1) above (looks + own)
-  going-on k (begun e z) n f m p l own o = absurd (omega (arith, z, m))
-  going-on k (through {above = up} {looks = more} {seen = seen} e r ls) n f m p l own o =
-      let x = reaches-next ctx s r k n f (subst (λ x. onward (linkPlan s (shape (nodeOf x))) ≡ true) e p) l m in
-      let z : seen + (ownLooks (nodeOf (nodeAt table (16 * up))) + (more + ownLooks (nodeOf (nodeAt table (16 * next))))) ≡ seen + (ownLooks (nodeOf (nodeAt table (16 * up))) + more) + own = omega (arith, o, ap (λ y. ownLooks (nodeOf y)) f) in
-      (child-here ctx s x, subst (Going ctx s table at (next + 1) (left - 1) above) z (through e x ls))
+  -- past a tree
+  pub going-on : {looks : ℕ} → Known s → Going ctx s table at next left above looks → (many own : ℕ) → PassedNext ctx s table next above left many own
+      → Searchable table (next + many) × Going ctx s table at (next + many) (left - 1) above (looks + own)
+  going-on k (begun e z) many own (m, p, i) = absurd (omega (arith, z, m))
+  going-on k (through {above = up} {looks = more} {seen = seen} e r ls) many own (m, p, i) =
+      let x = reaches-next ctx s r k (subst (λ x. onward (linkPlan s (shape (nodeOf x))) ≡ true) e p) i m in
+      let z : seen + (ownLooks (nodeOf (nodeAt table (16 * up))) + (more + own)) ≡ seen + (ownLooks (nodeOf (nodeAt table (16 * up))) + more) + own = omega arith in
+      (child-here ctx s x, subst (Going ctx s table at (next + many) (left - 1) above) z (through e x ls))
 
   -- down through a node
   pub going-down : {looks : ℕ} → Going ctx s table at next left above looks → (n : NodeRecord) → n ≡ nodeAt table (16 * next) → (far : ℕ) → EntersAt ctx s table next far → (own : ℕ) → own ≡ linkLooks n

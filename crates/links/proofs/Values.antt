@@ -1,5 +1,5 @@
 -- An assignment whose target doesn't end the search: its value is searched. Assumes nothing.
-use Prim.Native.Nat.{ℕ, _+_, _*_, _-_}
+use Prim.Native.Nat.{ℕ, _+_, _*_}
 use native.Mathlib.Omega.{arith}
 use mathlib.Core.Bool.{Bool, true, false, _&&_, _||_, not}
 use mathlib.Core.List.{List}
@@ -37,9 +37,9 @@ use Rattle.plans.proofs.Children.{first-read}
 use Rattle.plans.proofs.Targets.{depends-name, depends-member, stops-not, stops-depends}
 use Rattle.links.specs.OfNode.{leafKind, isLeaf, passesName}
 use Rattle.links.specs.Members.{targetAt, objectAt, PlainMember}
-use Rattle.links.specs.Links.{linkPlan, linkLooks, planBehind, Goes, OfChildren, Steady, Leaves, no-leaves, one-more, Between, past-leaves, past-target, planAt, Reaches, leftFrom, EntersAt}
+use Rattle.links.specs.Links.{linkPlan, linkLooks, planBehind, Goes, OfChildren, Steady, TreesBack, Between, past-target, planAt, Reaches, leftFrom, EntersAt}
 use Rattle.links.proofs.Leaves.{either-way, leaf-marked}
-use Rattle.links.proofs.LeavesBefore.{children-no-leaf}
+use Rattle.links.proofs.TreesBefore.{back-node, back-leaf}
 use Rattle.links.proofs.OfNode.{node-of}
 use Rattle.links.proofs.PlansBehind.{all-behind}
 use Rattle.links.proofs.Searching.{node-is, first-searchable}
@@ -153,26 +153,11 @@ module _ (ctx : Context) (s : Sought) (table : List ℕ) (at : ℕ) (n : NodeRec
           stops-depends ctx (compound (n .flags)) refl a (not-true (compound (n .flags)) simple) (omega arith) (depends-name ctx t name)
       by false a h = stops-not ctx (compound (n .flags)) refl a
 
-  -- it is no look
-  no-look : (eqb (target .kind) 29 || eqb (target .kind) 30) ≡ true → ownLooks (nodeOf target) ≡ 0
-  unfolding nodeOf ownLooks isExpression
-  no-look aim = either-way (eqb (target .kind) 29) (eqb (target .kind) 30) aim (λ z. rw (eqb-true (target .kind) 29 z) refl) (λ z. rw (eqb-true (target .kind) 30 z) refl)
-
-  one-leaf : (eqb (target .kind) 29 || eqb (target .kind) 30) ≡ true → Leaves table (at + 1) (at + 2) false 0
-  one-leaf aim =
-      let q = nodeOf (nodeAt table (16 * (at + 1))) in
-      let own : ownLooks q ≡ 0 = ap (λ x. ownLooks (nodeOf x)) (sym t) ∙ no-look aim in
-      let looks : 0 + ownLooks q ≡ 0 = omega (arith, own) in
-      let effect : hasEffect q ≡ false = ap (λ x. hasEffect (nodeOf x)) (sym t) ∙ sym quiet in
-      subst (Leaves table (at + 1) (at + 2) false) looks
-      (subst (λ b. Leaves table (at + 1) (at + 2) b (0 + ownLooks q)) effect
-      (one-more (omega arith) (subst (λ x. isLeaf x ≡ true) t bare) (no-leaves refl)))
-
-  pub enters-bare : n ≡ nodeAt table (16 * at) → n .kind ≡ 20 → n .children ≡ 2 → (eqb (target .kind) 29 || eqb (target .kind) 30) ≡ true → (not (s .effect) || eqb (target .kind) 29 && not (compound (n .flags))) ≡ true
+  pub enters-bare : n ≡ nodeAt table (16 * at) → n .kind ≡ 20 → n .children ≡ 2 → (not (s .effect) || eqb (target .kind) 29 && not (compound (n .flags))) ≡ true
       → Known s → Searchable table at → EntersAt ctx s table at 2
-  enters-bare e kind two aim h k here =
+  enters-bare e kind two h k here =
       let far : at + 1 + 1 ≡ at + 2 = omega arith in
-      enters-value ctx s table at n e kind two 2 refl (λ z. omega (arith, z)) (subst (λ j. Passes table (at + 1) 1 j false) far (leaf-passes target t bare false quiet)) (goes-past h) (past-leaves {before = 1} (omega arith) (one-leaf aim)) k here
+      enters-value ctx s table at n e kind two 2 refl (λ z. omega (arith, z)) (subst (λ j. Passes table (at + 1) 1 j false) far (leaf-passes target t bare false quiet)) (goes-past h) (past-target (ap (λ x. x .kind) (sym e) ∙ kind) (ap (λ x. x .children) (sym e) ∙ two) (back-leaf table (at + 1) far (subst (λ x. isLeaf x ≡ true) t bare))) k here
 
 -- a member, by the code's tests
 pub plain-member : (table : List ℕ) (at : ℕ) (target : NodeRecord) → target ≡ targetAt table at → (object : NodeRecord) → object ≡ objectAt table at
@@ -214,13 +199,10 @@ module _ (ctx : Context) (s : Sought) (table : List ℕ) (at : ℕ) (n : NodeRec
       let a : false ≡ hasEffect m = still ∙ ap hasEffect (ap nodeOf z ∙ node-of m (count kids)) in
       (omega (arith, x), rw (← a, ← y) refl)
 
-  no-leaf : isLeaf (targetAt table at) ≡ false
-  no-leaf = children-no-leaf (targetAt table at) (λ z. omega (arith, z, p .one))
-
   pub enters-member : n ≡ nodeAt table (16 * at) → n .kind ≡ 20 → n .children ≡ 2 → StopsAt ctx table (at + 1) 1 s (compound (n .flags)) false false → Known s → Searchable table at → EntersAt ctx s table at 3
   enters-member e kind two w k here =
       enters-value ctx s table at n e kind two 3 refl (λ z. omega (arith, z)) member-passes w
-      (past-target (ap (λ x. x .children) (sym e) ∙ two) no-leaf (omega (arith, p .one)) (one-more (omega arith) bare (no-leaves refl)))
+      (past-target (ap (λ x. x .kind) (sym e) ∙ kind) (ap (λ x. x .children) (sym e) ∙ two) (back-node table (at + 1) (p .one) (subst (λ j. TreesBack table (at + 3) j 1 (hasEffect (nodeOf (objectAt table at))) (ownLooks (nodeOf (objectAt table at)))) (omega arith) (back-leaf table (at + 2) (omega arith) bare))))
       k here
 
   -- a step is placed, and the object may change places with it

@@ -8,12 +8,12 @@ use lib.ListN.{length}
 use lib.Dec.{ltb}
 use borrow.Author.Tests.{ltb-false}
 use Rattle.records.specs.Record.{nodeAt}
-use Rattle.records.specs.Tree.{node, nodeOf}
+use Rattle.records.specs.Tree.{nodeOf}
 use Rattle.records.specs.declared.layout.NodeRecord.{NodeRecord}
 use Rattle.walk.specs.Context.{Context}
-use Rattle.walk.specs.Shape.{is, shape}
+use Rattle.walk.specs.Shape.{shape}
 use Rattle.walk.specs.Looks.{ownLooks}
-use Rattle.walk.specs.Substitute.{next as nextPlan, plan}
+use Rattle.walk.specs.Substitute.{next as nextPlan}
 use Rattle.plans.specs.declared.plan.Plan.{Plan}
 use Rattle.plans.specs.declared.plan.Plan.the-variants.{All}
 use Rattle.plans.specs.declared.sought.Sought.{Sought}
@@ -32,7 +32,7 @@ use Rattle.links.specs.Above.{SomeAbove, IsAbove, Within, ChildSearched}
 use Rattle.links.proofs.Row.{row-stopped, row-either}
 use Rattle.links.proofs.Nodes.{one-searched, others-searchable, looks-in-room}
 use Rattle.links.proofs.Searching.{searchable-room}
-use Rattle.links.proofs.LeavesBefore.{above-same}
+use Rattle.links.proofs.TreesBefore.{above-same}
 use Rattle.links.proofs.Going.{gather-none, goes-on, goes-to}
 use Rattle.links.proofs.Chain.{same-before, child-searchable, record-was, behind-searched, links-seen, found-links}
 

@@ -1,5 +1,5 @@
 -- The way back: the node above a child, and what the search of the trees did that were searched so far.
-use Prim.Native.Nat.{ℕ, _+_, _-_, _*_, _≤_, _<_}
+use Prim.Native.Nat.{ℕ, _+_, _-_, _*_, _≤_}
 use mathlib.Core.Bool.{Bool, false}
 use mathlib.Core.List.{List}
 use mathlib.Core.Path.{_≡_}
@@ -14,12 +14,8 @@ use Rattle.plans.specs.Answers.{isPassed, isReplaced}
 use Rattle.plans.specs.Described.{Known}
 use Rattle.plans.specs.Search.{Searchable, Searches}
 use Rattle.links.specs.declared.above.Before.{Before}
-use Rattle.links.specs.OfNode.{gather, isLeaf}
+use Rattle.links.specs.OfNode.{gather}
 use Rattle.links.specs.Links.{Above, Reaches, Links}
-
--- a node before number `end` that is no leaf
-abbrev pub SomeNode : List ℕ → ℕ → Type 0
-SomeNode table end = (k : ℕ) × (k < end) × (isLeaf (nodeAt table (16 * k)) ≡ false)
 
 -- some node is above the one at `child`
 abbrev pub SomeAbove : List ℕ → ℕ → Type 0

@@ -1,4 +1,5 @@
--- Nodes each of which is a child of the one before, behind leaves or behind a target, down to the one that is searched first.
+-- Nodes each of which is a child of the one before, behind small trees or behind a target, down to the one that is searched
+-- first.
 use Prim.Native.Nat.{ℕ, zero, suc, _+_, _-_, _*_, _≤_, _<_}
 use mathlib.Core.Bool.{Bool, true, false, cond, _||_, not}
 use mathlib.Core.List.{List, _++_}
@@ -23,8 +24,9 @@ use Rattle.plans.specs.Shapes.{planned}
 use Rattle.plans.specs.Plans.{isNothing}
 use Rattle.plans.specs.Described.{Describes}
 use Rattle.plans.specs.Passing.{stopsIn}
-use Rattle.plans.specs.Search.{allBareNames, Searchable, SearchableRow, Did, SearchesRow}
-use Rattle.links.specs.OfNode.{gather, isLeaf}
+use Rattle.plans.specs.Answers.{byPassing}
+use Rattle.plans.specs.Search.{allBareNames, Searchable, SearchableRow, Did, Searches, SearchesRow}
+use Rattle.links.specs.OfNode.{gather}
 
 -- the plan of a node that keeps neither a callee nor a tag
 abbrev pub linkPlan : Sought → RuleShape → Plan
@@ -83,6 +85,7 @@ linkLooks n = one (not (eqb (n .kind) 25 || eqb (n .kind) 26))
 pub record IsLink (n : NodeRecord) (s : Sought) : Type 0 where
   pub some : n .children ≡ 0 → ⊥
   pub other : is 4 (nodeOf n) ≡ false
+  pub unassigned : n .kind ≡ 20 → ⊥
   pub kept : cleared (nodeOf n) .flags ≡ n .flags
   pub looks : linkLooks n ≡ ownLooks (nodeOf n)
   pub steady : (ctx : Context) (replacement : Tree) (kids : Trees) → false ≡ stopsIn ctx replacement (shape (nodeOf n)) kids
@@ -112,17 +115,18 @@ Steady ctx s table at =
     (replacement : Tree) → Describes s replacement → (pre : List ℕ) (n : Node) (kids : Trees) (rest : List ℕ) → TreeAt table at (node n kids) pre rest
     → false ≡ stopsIn ctx replacement (shape n) kids
 
--- leaves from number `at` to number `end`, with their effect and their looks
-pub data Leaves (table : List ℕ) (at : ℕ) : ℕ → Bool → ℕ → Type 0 where
-  no-leaves : {end : ℕ} → end ≡ at → Leaves table at end false 0
-  one-more : {next end : ℕ} {effect : Bool} {looks : ℕ} → end ≡ next + 1 → isLeaf (nodeAt table (16 * next)) ≡ true → Leaves table at next effect looks
-      → Leaves table at end (effect || hasEffect (nodeOf (nodeAt table (16 * next)))) (looks + ownLooks (nodeOf (nodeAt table (16 * next))))
+-- Trees from number `at` to number `end`, read back from the end: a node takes as many of the trees behind it as it has children.
+-- With them, whether one of their nodes has an effect, and the looks at all of them.
+pub data TreesBack (table : List ℕ) (end : ℕ) : ℕ → ℕ → Bool → ℕ → Type 0 where
+  no-trees : {at : ℕ} → at ≡ end → TreesBack table end at 0 false 0
+  one-node : {at next trees looks : ℕ} {effect : Bool} → at + 1 ≡ next → nodeAt table (16 * at) .children ≤ trees → TreesBack table end next trees effect looks
+      → TreesBack table end at (trees - nodeAt table (16 * at) .children + 1) (hasEffect (nodeOf (nodeAt table (16 * at))) || effect) (ownLooks (nodeOf (nodeAt table (16 * at))) + looks)
 
--- What stands between a node and one of its children, `before` of which are passed before it: leaves, with their effect and
--- their looks; or an assignment's target over leaves, which has no effect and isn't looked at.
+-- What stands between a node and one of its children, `before` of which are passed before it: trees, with their effect and
+-- their looks; or an assignment's target, which has no effect and isn't looked at.
 pub data Between (table : List ℕ) (at child : ℕ) : ℕ → Bool → ℕ → Type 0 where
-  past-leaves : {before looks : ℕ} {effect : Bool} → before + (at + 1) ≡ child → Leaves table (at + 1) child effect looks → Between table at child before effect looks
-  past-target : {looks : ℕ} {effect : Bool} → nodeAt table (16 * at) .children ≡ 2 → isLeaf (nodeAt table (16 * (at + 1))) ≡ false → nodeAt table (16 * (at + 1)) .children + (at + 2) ≡ child → Leaves table (at + 2) child effect looks → Between table at child 1 false 0
+  past-trees : {before looks : ℕ} {effect : Bool} → (nodeAt table (16 * at) .kind ≡ 20 → ⊥) → TreesBack table child (at + 1) before effect looks → Between table at child before effect looks
+  past-target : {looks : ℕ} {effect : Bool} → nodeAt table (16 * at) .kind ≡ 20 → nodeAt table (16 * at) .children ≡ 2 → TreesBack table child (at + 1) 1 effect looks → Between table at child 1 false 0
 
 -- the node above a child, which is the first of the `left` children that are left
 pub record Above (table : List ℕ) (at child before left : ℕ) (effect : Bool) (looks : ℕ) : Type 0 where
@@ -145,6 +149,21 @@ pub record Reaches (ctx : Context) (s : Sought) (table : List ℕ) (at child bef
   pub above : Above table at child before left effect looks
   pub enters : isNothing (planAt table s at before) ≡ false
   pub goes : Goes ctx s (OfChildren ctx s table at) (at + 1) table child left (planAt table s at before) effect looks
+
+-- `many` trees, each of one node, are passed one after the other by any plan that enters each
+pub record PassedRow (ctx : Context) (s : Sought) (table : List ℕ) (at many : ℕ) (effect : Bool) (looks : ℕ) : Type 0 where
+  pub did : (p : Plan) → onward p ≡ true → SearchesRow ctx s table table at many p (byPassing true (record { 0 = at + many }) effect looks)
+  pub back : TreesBack table (at + many) at many effect looks
+
+-- the tree of `many` nodes at a place is passed at once
+pub record PassedItem (ctx : Context) (s : Sought) (table : List ℕ) (at many looks : ℕ) : Type 0 where
+  pub effect : Bool
+  pub did : Searches ctx s table table at (byPassing true (record { 0 = at + many }) effect looks)
+  pub back : TreesBack table (at + many) at 1 effect looks
+
+-- and so the search goes on behind it, among the children of `link` of which `left` are left
+abbrev pub PassedNext : Context → Sought → List ℕ → ℕ → NodeRecord → ℕ → ℕ → ℕ → Type 0
+PassedNext ctx s table at link left many looks = (2 ≤ left) × (onward (linkPlan s (shape (nodeOf link))) ≡ true) × PassedItem ctx s table at many looks
 
 -- how many children are left from the first that is searched on, where that stands so far behind the node: all, or the value
 abbrev pub leftFrom : NodeRecord → ℕ → ℕ

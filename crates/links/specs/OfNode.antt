@@ -1,9 +1,10 @@
 -- What is made of a node by what the search of its children did.
 use Prim.Native.Nat.{ℕ, _+_, _*_}
-use mathlib.Core.Bool.{Bool, true, false, _&&_, _||_, not}
+use mathlib.Core.Bool.{Bool, true, false, cond, _&&_, _||_, not}
 use mathlib.Core.List.{List, _++_}
 use mathlib.Core.Path.{_≡_}
 use lib.Dec.{eqb}
+use Rattle.records.specs.Flags.{computed}
 use Rattle.records.specs.Record.{nodeAt}
 use Rattle.records.specs.Tree.{Node, Tree, Trees, node, none, more, count, recordOf, nodeOf}
 use Rattle.records.specs.declared.layout.NodeRecord.{NodeRecord}
@@ -44,9 +45,9 @@ OfPassed ctx r stops s effect a q = isPassed (a .answer) ≡ true → (table : L
 abbrev pub OfAnswered : List ℕ → List ℕ → ℕ → NodeRecord → Bool → Walked → Walked → Type 0
 OfAnswered table table′ at r effect a q = isPassed (a .answer) ≡ false → (ctx : Context) (stops : Bool) (s : Sought) → OfNode ctx table table′ at r stops s (behind effect a) q
 
--- kinds that never have children
+-- kinds of nodes that may have no children: arrays, objects and templates among them, a bare `yield` isn't
 abbrev pub leafKind : ℕ → Bool
-leafKind k = eqb k 0 || eqb k 1 || eqb k 2 || eqb k 3 || eqb k 4 || eqb k 5 || eqb k 27 || eqb k 29 || eqb k 30
+leafKind k = eqb k 0 || eqb k 1 || eqb k 2 || eqb k 3 || eqb k 4 || eqb k 5 || eqb k 21 || eqb k 22 || eqb k 23 || eqb k 27 || eqb k 29 || eqb k 30
 
 -- a node without children, of such a kind
 abbrev pub isLeaf : NodeRecord → Bool
@@ -69,6 +70,7 @@ pub record PassedLeaf (ctx : Context) (s : Sought) (n : NodeRecord) : Type 0 whe
   pub other : isSpecificId (s .name .0) (nodeOf n) ≡ false
   pub passes : (movesLeaf n s || passesName ctx n) ≡ true
 
--- a link that is passed where its children are, if it or one of them has this effect: no spread and no property
+-- a link that is passed where its children are, if it or one of them has this effect: a property whose key isn't computed, and
+-- else what may change places with the tree to place and is no spread
 abbrev pub movesLink : NodeRecord → Sought → Bool → Bool
-movesLink n s effect = not (eqb (n .kind) 25 || eqb (n .kind) 26) && reorders s effect
+movesLink n s effect = cond (eqb (n .kind) 26) (not (computed (n .flags))) (not (eqb (n .kind) 25) && reorders s effect)

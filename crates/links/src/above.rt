@@ -1,16 +1,18 @@
 // The way back: from a child to the node above it, and further where the search ended in the child.
+ghost use mathlib.Core.Bool.{cond};
+ghost use mathlib.Core.Path.{_≡_};
 ghost use Prim.Native.Nat.{_*_, _≤_};
 ghost use lib.ListN.{length};
+ghost use lib.Dec.{eqb};
 ghost use Rattle.links.specs.Above.{SomeAbove, IsAbove, Carries, CarriesEnded};
 use crate::descent::Reached;
-use crate::leaf::is_leaf;
-use crate::leaf::leaf_effect;
-use crate::leaf::leaf_looks;
 use crate::node::own_looks;
+use effects::has_effect;
 use plans::walked::Walked;
 use plans::walked::is_passed;
 use plans::walked::is_replaced;
 use records::layout::NodeId;
+use records::layout::NodeRecord;
 use records::number::size;
 use table::work_node;
 
@@ -25,43 +27,42 @@ pub struct Before {
     pub effect: bool,
 }
 
-// Back past leaves to the first node that is none. If these are all of its children, it is the target of the assignment before
-// it.
+// The looks at what stands before a child: an assignment's target isn't looked at.
+fn looks_before(n: NodeRecord, looks: usize) -> usize
+    ensures { λ r. ⌜ r ≡ cond (eqb (n .kind) 20) 0 looks ⌝ }
+{
+    if n.kind == 20 {
+        return 0;
+    }
+    looks
+}
+
+// Back over the trees that stand before the child: a node takes as many of those behind it as it has children, and the first
+// that has more is above them. A target that the search goes past has no effect.
 pub fn node_above(nodes: &[u8], child: NodeId) -> Before
     requires { ⌜ 16 * child .0 ≤ length (now nodes) ⌝ }
     requires { ⌜ SomeAbove (now nodes) (child .0) ⌝ }
     ensures { λ r. ⌜ IsAbove (now (nodes .entry)) (child .0) r ⌝ }
 {
     let mut link = child.0 - 1;
+    let mut before: usize = 0;
     let mut looks: usize = 0;
     let mut effect = false;
     let mut n = work_node(nodes, NodeId(link));
-    while is_leaf(n) {
-        looks = leaf_looks(n) + looks;
-        effect = leaf_effect(n) | effect;
+    while size(n.children) <= before {
+        before = before - size(n.children) + 1;
+        looks = own_looks(n) + looks;
+        effect = has_effect(n) | effect;
         link -= 1;
         n = work_node(nodes, NodeId(link));
-    }
-    let before = child.0 - link - 1;
-    let many = size(n.children);
-    if many == before {
-        let above = NodeId(link - 1);
-        return Before {
-            link: above,
-            before: 1,
-            left: 0,
-            looks: 0,
-            own: own_looks(work_node(nodes, above)),
-            effect: false,
-        };
     }
     Before {
         link: NodeId(link),
         before,
-        left: many - before - 1,
-        looks,
+        left: size(n.children) - before - 1,
+        looks: looks_before(n, looks),
         own: own_looks(n),
-        effect,
+        effect: !(n.kind == 20) & effect,
     }
 }
 

@@ -9,9 +9,7 @@ ghost use Rattle.walk.specs.Context.{Context, contextOf};
 ghost use Rattle.plans.specs.Described.{Known};
 ghost use Rattle.plans.specs.Search.{Searchable};
 ghost use Rattle.links.specs.Links.{EntersAt, leftFrom, LinksTo};
-use crate::leaf::leaf_looks;
-use crate::leaf::passes_leaf;
-use crate::link::enters_all;
+use crate::item::next_item;
 use crate::link::is_link;
 use crate::link::link_looks;
 use crate::value::value_distance;
@@ -76,8 +74,7 @@ pub struct Reached {
     pub looks: usize,
 }
 
-// The first node from `at` on that the search doesn't go down through. A leaf is passed where every child of the node above it
-// is entered; a node's last child never is.
+// The first node from `at` on that the search doesn't go down through. Small trees before it are passed.
 pub fn behind_links(file: &[u8], h: Header, nodes: &[u8], at: NodeId, s: Sought) -> Reached
     requires { ⌜ h ≡ headerOf (now file) ⌝ }
     requires { ⌜ length (now file) ≡ fileLength h ⌝ }
@@ -91,21 +88,16 @@ pub fn behind_links(file: &[u8], h: Header, nodes: &[u8], at: NodeId, s: Sought)
     let mut n = work_node(nodes, at);
     let mut link = n;
     loop {
-        if n.children == 0 {
-            if left < 2 {
-                break;
-            }
-            if !enters_all(link, s) {
-                break;
-            }
-            if !passes_leaf(file, h, n, s) {
-                break;
-            }
-            looks += leaf_looks(n);
-            next += 1;
+        let item = next_item(file, h, nodes, NodeId(next), n, link, left, s);
+        if !(item.many == 0) {
+            looks += item.looks;
+            next += item.many;
             left -= 1;
             n = work_node(nodes, NodeId(next));
             continue;
+        }
+        if n.children == 0 {
+            break;
         }
         let step = distance(file, h, nodes, NodeId(next), n, s);
         if step == 0 {

@@ -24,7 +24,7 @@ use records::number::one;
 use reorder::unsettled::identifier_read_blocks_reorder;
 use reorder::unsettled::is_settled_by_facts;
 
-// A node without children, of a kind that never has any.
+// A node without children, of a kind that may have none: an empty array, object or template is one too.
 pub fn is_leaf(n: NodeRecord) -> bool
     ensures { λ r. ⌜ r ≡ isLeaf n ⌝ }
 {
@@ -35,6 +35,9 @@ pub fn is_leaf(n: NodeRecord) -> bool
             | (n.kind == 3)
             | (n.kind == 4)
             | (n.kind == 5)
+            | (n.kind == 21)
+            | (n.kind == 22)
+            | (n.kind == 23)
             | (n.kind == 27)
             | (n.kind == 29)
             | (n.kind == 30))
@@ -50,7 +53,7 @@ pub fn leaf_effect(n: NodeRecord) -> bool
 pub fn leaf_looks(n: NodeRecord) -> usize
     ensures { λ r. ⌜ (isLeaf n ≡ true → r ≡ ownLooks (nodeOf n)) × (r ≤ 1) ⌝ }
 {
-    one(n.kind < 6)
+    one(n.kind < 25)
 }
 
 // Such a node that is passed whatever its name is: a constant, or one that may change places with the tree to place.

@@ -2,6 +2,7 @@
 // search of its children did.
 pub mod above;
 pub mod descent;
+pub mod item;
 pub mod leaf;
 pub mod link;
 pub mod node;

@@ -115,8 +115,11 @@ pub fn enters_all(n: NodeRecord, s: Sought) -> bool
     ensures { λ r. ⌜ (r ≡ true → onward (linkPlan s (shape (nodeOf n))) ≡ true) ⌝ }
 {
     let choice = (n.kind == 17) | (n.kind == 19) | (n.flags / 2 % 2 == 1);
-    if (n.kind == 25) | (n.kind == 26) {
+    if n.kind == 25 {
         return false;
+    }
+    if n.kind == 26 {
+        return !(n.flags / 32 % 2 == 1);
     }
     if s.effect {
         return !choice;

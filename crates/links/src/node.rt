@@ -55,11 +55,15 @@ pub fn is_specific_id(n: NodeRecord, s: Sought) -> bool
     (n.kind == 4) & (n.label == s.name.0)
 }
 
-// A link that is passed where its children are: `effect` is whether it has an effect, or one of them.
+// A link that is passed where its children are: `effect` is whether it has an effect, or one of them. A property is passed by
+// its key alone.
 pub fn moves_link(n: NodeRecord, s: Sought, effect: bool) -> bool
     ensures { λ r. ⌜ r ≡ movesLink n s effect ⌝ }
 {
-    !((n.kind == 25) | (n.kind == 26)) & can_reorder(s, effect)
+    if n.kind == 26 {
+        return !(n.flags / 32 % 2 == 1);
+    }
+    !(n.kind == 25) & can_reorder(s, effect)
 }
 
 // A node whose children are passed, `a`; `effect` is whether one that was passed before them has an effect.

@@ -10,7 +10,7 @@ use Rattle.records.specs.Place.{root}
 use Rattle.records.specs.declared.layout.NodeRecord.{NodeRecord}
 use Rattle.records.proofs.Tests.{clash}
 use Rattle.walk.specs.Context.{Context}
-use Rattle.walk.specs.Shape.{is, isMemberExpression, assignment}
+use Rattle.walk.specs.Shape.{isMemberExpression}
 use Rattle.walk.specs.Effect.{mayHaveSideEffects}
 use Rattle.walk.specs.Substitute.{Plan as RulePlan, all, first, nothing, test, plan, planFor, keepsCallee, keepsIndirect, isSpecificId}
 use Rattle.plans.specs.declared.shape.Shape.{Shape}

@@ -48,10 +48,10 @@ module _ (scopes : List Scope) (scope stop : ℕ) where
   climb-none steps e = rw e
 
   -- the climb has come to the scope that isn't counted
-  pub climb-home : (steps : ℕ) → scope ≡ stop → false ≡ climb steps scopes scope stop
+  pub climb-same : (steps : ℕ) → scope ≡ stop → false ≡ climb steps scopes scope stop
   unfolding climb
-  climb-home zero e = refl
-  climb-home (suc n) e = rw (eq-eqb scope stop e)
+  climb-same zero e = refl
+  climb-same (suc n) e = rw (eq-eqb scope stop e)
 
   -- it leaves a function
   pub climb-out : (steps : ℕ) → (steps ≡ 0 → ⊥) → (scope ≡ stop → ⊥) → isFunction (scopeOf scopes scope .flags) ≡ true → true ≡ climb steps scopes scope stop

@@ -1,8 +1,7 @@
 // Names whose value may change while a read of them waits.
-ghost use mathlib.Core.Bool.{true, false, _||_};
+ghost use mathlib.Core.Bool.{true, false};
 ghost use mathlib.Core.Path.{_≡_};
 ghost use lib.ListN.{length};
-ghost use Rattle.records.specs.Flags.{unresolved as unresolvedBit};
 ghost use Rattle.records.specs.Record.{headerOf};
 ghost use Rattle.records.specs.File.{fileLength, scopesOf, read};
 ghost use Rattle.walk.specs.Context.{contextOf, factsOf};

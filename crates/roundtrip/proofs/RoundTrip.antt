@@ -1,5 +1,5 @@
 -- The round trip: a file and its bytes say the same. Assumes nothing.
-use mathlib.Core.Path.{_≡_, sym, ap, _∙_}
+use mathlib.Core.Path.{_≡_}
 use mathlib.Core.List.{List}
 use Prim.Native.Nat.{ℕ, _+_, _*_}
 use lib.ListN.{length}
@@ -25,10 +25,6 @@ read-print f = λ i. record {
   statements = printed-stated f i;
 }
 
--- So it is where the printed file is accepted.
-pub read-print-accepted : (f : File) (room : ℕ) → refusal (print f) room ≡ 0 → read (print f) ≡ f
-read-print-accepted f room e = read-print f
-
 -- What is printed of the file that is read of accepted bytes is those bytes.
 pub print-read : (bs : List ℕ) (room : ℕ) → Bytes bs → refusal bs room ≡ 0 → print (read bs) ≡ bs
 unfolding print read
@@ -37,14 +33,6 @@ print-read bs room small e =
     let h = has-header a in
     rw (read-header bs room a, read-nodes bs room a, read-declarators bs room a, read-statements bs room a, parts-again bs small (has-length a))
     (header-again bs small (h .0) (h .1) (h .2) (h .3))
-
--- No two files have the same bytes.
-pub print-tells : (f g : File) → print f ≡ print g → f ≡ g
-print-tells f g e = sym (read-print f) ∙ ap read e ∙ read-print g
-
--- No two accepted lists of bytes are the same file.
-pub read-tells : (bs cs : List ℕ) (room room′ : ℕ) → Bytes bs → Bytes cs → refusal bs room ≡ 0 → refusal cs room′ ≡ 0 → read bs ≡ read cs → bs ≡ cs
-read-tells bs cs room room′ small small′ e e′ same = sym (print-read bs room small e) ∙ ap print same ∙ print-read cs room′ small′ e′
 
 -- The length of a printed file, by the counts of the file.
 pub print-length : (f : File)

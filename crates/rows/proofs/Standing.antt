@@ -1,6 +1,6 @@
 -- Children that stand where the sets of a row allow it. Assumes nothing.
 use mathlib.Core.Path.{_≡_, refl, sym, ap, ap₂, _∙_}
-use mathlib.Core.Bool.{Bool, true, false, not, _&&_, _||_, and-true, and-false, or-true, true≢false, false≢true}
+use mathlib.Core.Bool.{Bool, true, false, not, _&&_, _||_, and-true, and-false, true≢false, false≢true}
 use mathlib.Core.List.{List, [], _∷_}
 use Prim.Native.Nat.{ℕ, zero, suc, _+_, _*_, _/_, _%_, _≤_, _<_}
 use native.Mathlib.Omega.{arith}
@@ -115,14 +115,11 @@ leaf-entry x es e l = rw l (omega arith)
 
 -- the branches of the code that makes the entry
 module _ (k : ℕ) (link o d : Bool) where
-  pub entry-loose : d ≡ true → entry k link ≡ entry k (link && (o || d))
-  entry-loose e = rw (e, or-true o, and-true link)
+  pub entry-either : (o || d) ≡ true → entry k link ≡ entry k (link && (o || d))
+  entry-either e = rw (e, and-true link)
 
-  pub entry-optional : o ≡ true → entry k link ≡ entry k (link && (o || d))
-  entry-optional e = rw (e, and-true link)
-
-  pub entry-neither : o ≡ false → d ≡ false → entry k false ≡ entry k (link && (o || d))
-  entry-neither e f = rw (e, f, and-false link)
+  pub entry-neither : (o || d) ≡ false → entry k false ≡ entry k (link && (o || d))
+  entry-neither e = rw (e, and-false link)
 
 -- the tests of the code
 module _ (first later : ℕ) where

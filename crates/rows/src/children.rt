@@ -60,10 +60,7 @@ pub fn entry_above(n: NodeRecord, first: u16) -> u16
     let optional = n.flags / 2 % 2 == 1;
     let loose = first % 2 == 1;
     let may_be_loose = !(n.kind == 13);
-    if loose {
-        return entry(n.kind, may_be_loose);
-    }
-    if optional {
+    if optional | loose {
         return entry(n.kind, may_be_loose);
     }
     entry(n.kind, false)

@@ -36,7 +36,7 @@ pub fn put_statement(out: &mut [u8], s: StatementRecord)
     bytes::copy(&record, out);
 }
 
-// Names, scopes or frames: the bytes of a file from one place to another, as they are.
+// The bytes from one place to another, as they are: names, scopes and frames of a file, declarators and statements of a table.
 pub fn put_copy(out: &mut [u8], file: &[u8], from: usize, to: usize)
     requires { ⌜ from ≤ to ⌝ }
     requires { ⌜ to ≤ length (now file) ⌝ }

@@ -35,7 +35,7 @@ fn level(what: &'static str, before: Vec<Node>, behind: Vec<Node>) -> Level {
     Level { what, before, behind }
 }
 
-fn levels() -> Vec<Level> {
+fn plain_levels() -> Vec<Level> {
     [unary_levels(), member_levels(), call_levels(), branch_levels(), list_levels()]
         .into_iter()
         .flatten()
@@ -126,6 +126,35 @@ fn list_levels() -> Vec<Level> {
     ]
 }
 
+/// Levels behind trees that are no leaves.
+fn small_tree_levels() -> Vec<Level> {
+    let array = |children: u16| parent(kind::ARRAY, children);
+    let binary = parent(kind::BINARY, 2);
+    let call = |children: u16| parent(kind::CALL, children);
+    let member = parent(kind::STATIC_MEMBER, 1);
+    let test = vec![parent(kind::CONDITIONAL, 3), binary, settled(), literal()];
+    let argument = vec![call(3), settled(), call(2), settled(), literal()];
+    let property = parent(kind::PROPERTY, 1);
+    vec![
+        level("array behind an array", vec![array(2), array(0)], vec![]),
+        level(
+            "array behind an operator",
+            vec![array(2), parent(kind::UNARY, 1), literal()],
+            vec![],
+        ),
+        level("operand behind a member", vec![binary, member, settled()], vec![]),
+        level("operand behind an operator", vec![binary, binary, settled(), literal()], vec![]),
+        level("argument of a method", vec![call(2), member, settled()], vec![]),
+        level("argument behind a call", argument, vec![]),
+        level("branch behind an operator", test, vec![literal()]),
+        level(
+            "property behind a property",
+            vec![parent(kind::OBJECT, 2), property, literal(), property],
+            vec![],
+        ),
+    ]
+}
+
 /// The file that declares the name and holds as many levels as fit, with the name within the last.
 fn nest(level: &Level, initializer: &[Node]) -> RecordFile {
     let most = usize::try_from(MOST_NODES).expect("it is small") - 2;
@@ -143,8 +172,8 @@ fn nest(level: &Level, initializer: &[Node]) -> RecordFile {
     file
 }
 
-/// Every nest, for a literal, for an effect and for a member.
-pub fn nests() -> Vec<(String, RecordFile)> {
+/// The nests of some levels, for a literal, for an effect and for a member.
+fn nests_of(levels: &[Level]) -> Vec<(String, RecordFile)> {
     let initializers = [
         ("literal", vec![literal()]),
         ("effect", vec![node(kind::CALL, flag::MARK, 0, 1), settled()]),
@@ -154,5 +183,15 @@ pub fn nests() -> Vec<(String, RecordFile)> {
         let named = |what: &str| format!("{}, {what}", level.what);
         initializers.each_ref().map(|(what, tree)| (named(what), nest(level, tree)))
     };
-    levels().iter().flat_map(of).collect()
+    levels.iter().flat_map(of).collect()
+}
+
+/// The nests in which nothing but leaves and targets stands beside a level.
+pub fn plain_nests() -> Vec<(String, RecordFile)> {
+    nests_of(&plain_levels())
+}
+
+/// These, and those with other small trees before each level.
+pub fn nests() -> Vec<(String, RecordFile)> {
+    [plain_nests(), nests_of(&small_tree_levels())].concat()
 }

@@ -1,3 +1,4 @@
+-- `links::above::above_ended` meets its contract. Assumes nothing.
 use mathlib.Core.Path.{sym, _∙_}
 use Rattle.links.proofs.Ending.{carries-none}
 use borrow.Author.Needs.{needs}

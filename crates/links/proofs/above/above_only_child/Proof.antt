@@ -1,3 +1,4 @@
+-- `links::above::above_only_child` meets its contract. Assumes nothing.
 use native.Mathlib.Omega.{arith}
 use Prim.Native.Nat.{_+_, _≤_}
 use borrow.Author.Tests.{not-false, eqb-true}

@@ -1,3 +1,4 @@
+-- `links::descent::distance` meets its contract. Assumes nothing.
 use Rattle.records.specs.File.{read}
 use Rattle.walk.specs.Context.{contextOf}
 use Rattle.links.proofs.Reaching.{enters-first}

@@ -1,3 +1,4 @@
+-- `links::descent::keeps_neither` meets its contract. Assumes nothing.
 use mathlib.Core.Bool.{false, not}
 use mathlib.Core.Path.{refl, subst}
 use borrow.Author.Tests.{not-true, not-false}

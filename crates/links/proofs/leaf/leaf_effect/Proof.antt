@@ -1,3 +1,4 @@
+-- `links::leaf::leaf_effect` meets its contract. Assumes nothing.
 use Rattle.links.proofs.Leaves.{leaf-marked}
 use Rattle.links.proofs.leaf.leaf_effect.Statement.{statement}
 use Rattle.links.proofs.leaf.leaf_effect.Tie as tie

@@ -1,3 +1,4 @@
+-- `links::leaf::leaf_looks` meets its contract. Assumes nothing.
 use mathlib.Core.Path.{_∙_}
 use Rattle.links.proofs.Leaves.{leaf-looked}
 use borrow.Author.Needs.{needs}

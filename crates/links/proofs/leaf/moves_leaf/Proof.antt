@@ -1,3 +1,4 @@
+-- `links::leaf::moves_leaf` meets its contract. Assumes nothing.
 use mathlib.Core.Bool.{_||_}
 use mathlib.Core.Path.{ap, _∙_}
 use lib.Dec.{eqb}

@@ -1,3 +1,4 @@
+-- `links::leaf::of_leaf` meets its contract. Assumes nothing.
 use mathlib.Core.Bool.{_||_, true}
 use mathlib.Core.Path.{refl, sym, ap, _∙_}
 use Rattle.records.specs.File.{read}

@@ -1,3 +1,4 @@
+-- `links::leaf::passes_name` meets its contract. Assumes nothing.
 use mathlib.Core.Bool.{not}
 use mathlib.Core.Path.{ap}
 use Rattle.links.proofs.Leaves.{no-name}

@@ -1,3 +1,4 @@
+-- `links::leaf::passes_name_by_facts` meets its contract. Assumes nothing.
 use mathlib.Core.Bool.{false, not}
 use mathlib.Core.Path.{refl, ap}
 use Rattle.records.proofs.Tests.{clash}

@@ -1,3 +1,4 @@
+-- `links::link::is_link` meets its contract. Assumes nothing.
 use mathlib.Core.Bool.{false}
 use mathlib.Core.Path.{refl}
 use Rattle.records.proofs.Tests.{clash}

@@ -1,3 +1,4 @@
+-- `links::link::is_link_kind` meets its contract. Assumes nothing.
 use mathlib.Core.Path.{sym, ap, _∙_}
 use Rattle.records.specs.Sets.{isIn}
 use Rattle.links.proofs.LinkKinds.{set-kind}

@@ -1,3 +1,4 @@
+-- `links::link::link_plan` meets its contract. Assumes nothing.
 use mathlib.Core.Path.{sym, ap, _∙_}
 use Rattle.plans.specs.Shapes.{shaped}
 use Rattle.links.specs.Links.{linkPlan}

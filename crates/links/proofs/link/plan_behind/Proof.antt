@@ -1,3 +1,4 @@
+-- `links::link::plan_behind` meets its contract. Assumes nothing.
 use mathlib.Core.Path.{sym, ap, _∙_}
 use Rattle.plans.specs.declared.plan.Plan.{Plan}
 use Rattle.plans.specs.declared.plan.Plan.the-variants.{First, Nothing, Test, Branches}

@@ -1,3 +1,4 @@
+-- `links::node::of_answered` meets its contract. Assumes nothing.
 use mathlib.Core.Path.{ap}
 use Rattle.links.specs.OfNode.{behind}
 use Rattle.links.proofs.OfNode.{of-clearing}

@@ -1,3 +1,4 @@
+-- `links::node::of_passed` meets its contract. Assumes nothing.
 use native.Mathlib.Omega.{arith}
 use Rattle.records.specs.File.{read}
 use Rattle.walk.specs.Context.{contextOf}

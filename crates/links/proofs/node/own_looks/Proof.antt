@@ -1,3 +1,4 @@
+-- `links::node::own_looks` meets its contract. Assumes nothing.
 use mathlib.Core.Path.{_∙_}
 use borrow.Author.Tests.{ne-eqb}
 use Rattle.links.proofs.Looking.{own-key, own-other}

@@ -1,3 +1,4 @@
+-- `links::outcome::by_passing` meets its contract. Assumes nothing.
 use borrow.Author.Needs.{needs}
 use Rattle.links.proofs.outcome.by_passing.Statement.{statement}
 use Rattle.links.proofs.outcome.by_passing.Tie as tie

@@ -1,3 +1,4 @@
+-- `links::outcome::either` meets its contract. Assumes nothing.
 use mathlib.Core.Path.{sym, _∙_}
 use Rattle.links.proofs.Either.{either-replaced, either-stopped}
 use borrow.Author.Needs.{needs}

@@ -1,3 +1,4 @@
+-- `links::value::is_to_plain_member` meets its contract. Assumes nothing.
 use native.Mathlib.Omega.{arith}
 use mathlib.Core.Bool.{false}
 use mathlib.Core.Path.{refl}

@@ -1,3 +1,4 @@
+-- `links::value::passes_object` meets its contract. Assumes nothing.
 use mathlib.Core.Bool.{not}
 use mathlib.Core.Path.{sym, _∙_}
 use borrow.Author.Tests.{not-true}

@@ -1,6 +1,7 @@
+-- `links::value::value_behind_member` meets its contract. Assumes nothing.
 use native.Mathlib.Omega.{arith}
 use Prim.Native.Nat.{_/_, _%_}
-use mathlib.Core.Path.{_≡_, refl, sym, ap, _∙_, subst}
+use mathlib.Core.Path.{_≡_, refl, sym, _∙_, subst}
 use mathlib.Core.Bool.{true}
 use borrow.Author.Tests.{not-false, not-true, ne-eqb}
 use Rattle.records.specs.Flags.{compound}

@@ -1,3 +1,4 @@
+-- `links::value::value_distance` meets its contract. Assumes nothing.
 use native.Mathlib.Omega.{arith}
 use mathlib.Core.Bool.{_&&_, _||_, not}
 use mathlib.Core.Path.{refl, sym, _∙_}
@@ -38,7 +39,7 @@ leaf-effect-requires : tie.Need-leaf-effect-requires
 leaf-effect-requires c κs = search needs
 
 returns-3 : tie.Need-returns-3
-returns-3 c = let a = (c .before .before .before .before .before .before .before .before .before .before .before .before .before .before .before) .args in λ _ known. let (p, q) = both ((c .before .before .before .before .before .is-leaf) .result && not ((c .before .before .before .before .leaf-effect) .result) && (eqb ((c .before .before .before .before .before .before .before .work-node) .result .kind) 29 || eqb ((c .before .before .before .before .before .before .before .work-node) .result .kind) 30)) (not (a .s .effect) || eqb ((c .before .before .before .before .before .before .before .work-node) .result .kind) 29 && not (compound (a .n .flags))) ((c .if3) .taken) in let (r, aim) = both ((c .before .before .before .before .before .is-leaf) .result && not ((c .before .before .before .before .leaf-effect) .result)) (eqb ((c .before .before .before .before .before .before .before .work-node) .result .kind) 29 || eqb ((c .before .before .before .before .before .before .before .work-node) .result .kind) 30) p in let (l, quiet) = both ((c .before .before .before .before .before .is-leaf) .result) (not ((c .before .before .before .before .leaf-effect) .result)) r in let bare = sym ((c .before .before .before .before .before .is-leaf) .ensures) ∙ l in enters-bare (contextOf (read (a .file .now))) (a .s) (a .nodes .now) (a .at .0) (a .n) ((c .before .before .before .before .before .before .before .work-node) .result) ((c .before .before .before .before .before .before .before .work-node) .ensures) bare (sym (not-true ((c .before .before .before .before .leaf-effect) .result) quiet) ∙ (c .before .before .before .before .leaf-effect) .ensures bare) ((c .before .before .before .before .before .before .before .before .before .before .before .before .before .before .before) .pre .1 .1 .1) (eqb-true (a .n .kind) 20 (not-false _ ((c .before .before .before .before .before .before .before .before .before .before .before .if1) .left))) (eqb-true (a .n .children) 2 (not-false _ ((c .before .before .before .before .before .before .before .before .before .if2) .left))) aim q known ((c .before .before .before .before .before .before .before .before .before .before .before .before .before .before .before) .pre .1 .1 .0)
+returns-3 c = let a = (c .before .before .before .before .before .before .before .before .before .before .before .before .before .before .before) .args in λ _ known. let (p, q) = both ((c .before .before .before .before .before .is-leaf) .result && not ((c .before .before .before .before .leaf-effect) .result) && (eqb ((c .before .before .before .before .before .before .before .work-node) .result .kind) 29 || eqb ((c .before .before .before .before .before .before .before .work-node) .result .kind) 30)) (not (a .s .effect) || eqb ((c .before .before .before .before .before .before .before .work-node) .result .kind) 29 && not (compound (a .n .flags))) ((c .if3) .taken) in let (r, _) = both ((c .before .before .before .before .before .is-leaf) .result && not ((c .before .before .before .before .leaf-effect) .result)) (eqb ((c .before .before .before .before .before .before .before .work-node) .result .kind) 29 || eqb ((c .before .before .before .before .before .before .before .work-node) .result .kind) 30) p in let (l, quiet) = both ((c .before .before .before .before .before .is-leaf) .result) (not ((c .before .before .before .before .leaf-effect) .result)) r in let bare = sym ((c .before .before .before .before .before .is-leaf) .ensures) ∙ l in enters-bare (contextOf (read (a .file .now))) (a .s) (a .nodes .now) (a .at .0) (a .n) ((c .before .before .before .before .before .before .before .work-node) .result) ((c .before .before .before .before .before .before .before .work-node) .ensures) bare (sym (not-true ((c .before .before .before .before .leaf-effect) .result) quiet) ∙ (c .before .before .before .before .leaf-effect) .ensures bare) ((c .before .before .before .before .before .before .before .before .before .before .before .before .before .before .before) .pre .1 .1 .1) (eqb-true (a .n .kind) 20 (not-false _ ((c .before .before .before .before .before .before .before .before .before .before .before .if1) .left))) (eqb-true (a .n .children) 2 (not-false _ ((c .before .before .before .before .before .before .before .before .before .if2) .left))) q known ((c .before .before .before .before .before .before .before .before .before .before .before .before .before .before .before) .pre .1 .1 .0)
 
 value-behind-member-requires : tie.Need-value-behind-member-requires
 value-behind-member-requires c κs = ((c .before .before .before .before .before .before .before .before .before .before .before .before .before .before .before) .pre .0, ((c .before .before .before .before .before .before .before .before .before .before .before .before .before .before .before) .pre .1 .0, ((c .before .before .before .before .before .before .before .before .before .before .before .before .before .before .before) .pre .1 .1 .0, ((c .before .before .before .before .before .before .before .before .before .before .before .before .before .before .before) .pre .1 .1 .1, (eqb-true ((c .before .before .before .before .before .before .before .before .before .before .before .before .before .before .before) .args .n .kind) 20 (not-false _ ((c .before .before .before .before .before .before .before .before .before .before .before .if1) .left)), eqb-true ((c .before .before .before .before .before .before .before .before .before .before .before .before .before .before .before) .args .n .children) 2 (not-false _ ((c .before .before .before .before .before .before .before .before .before .if2) .left)))))))

@@ -1,11 +1,10 @@
 -- `reorder::unsettled::read_crosses_function_boundary` meets its contract. Assumes nothing.
 use mathlib.Core.Path.{_≡_, _∙_}
 use native.Mathlib.Omega.{arith}
-use Prim.Native.Nat.{_-_}
 use lib.ListN.{length}
 use Rattle.records.specs.File.{scopesOf}
 use Rattle.walk.specs.Unsettled.{climb, readCrossesFunctionBoundary}
-use Rattle.reorder.proofs.Climbing.{scopes-length, climb-none, climb-home, climb-out, climb-on}
+use Rattle.reorder.proofs.Climbing.{scopes-length, climb-none, climb-same, climb-out, climb-on}
 use Rattle.reorder.proofs.unsettled.read_crosses_function_boundary.Statement.{statement}
 use Rattle.reorder.proofs.unsettled.read_crosses_function_boundary.Tie as tie
 
@@ -39,7 +38,7 @@ returns c = climb-none _ _ _ _ ((c .if1) .taken) ∙ (c .before .loop) .inv
 
 returns-2 : tie.Need-returns-2 Inv-loop μ-loop
 unfolding readCrossesFunctionBoundary
-returns-2 c = climb-home _ _ _ _ ((c .if2) .taken) ∙ (c .before .before .before .loop) .inv
+returns-2 c = climb-same _ _ _ _ ((c .if2) .taken) ∙ (c .before .before .before .loop) .inv
 
 returns-3 : tie.Need-returns-3 Inv-loop μ-loop
 unfolding readCrossesFunctionBoundary

@@ -4,7 +4,7 @@ use mathlib.Core.Bool.{not}
 use lib.Dec.{eqb}
 use Rattle.records.specs.Flags.{optional}
 use Rattle.trees.specs.Stack.{entryLoose}
-use Rattle.rows.proofs.Standing.{entry-loose, entry-optional, entry-neither}
+use Rattle.rows.proofs.Standing.{entry-either, entry-neither}
 use borrow.Author.Needs.{needs}
 use Rattle.rows.proofs.children.entry_above.Statement.{statement}
 use Rattle.rows.proofs.children.entry_above.Tie as tie
@@ -16,21 +16,13 @@ entry-requires : tie.Need-entry-requires
 entry-requires c κs = search needs
 
 returns : tie.Need-returns
-returns c = (c .entry) .ensures ∙ entry-loose ((c .before .before .before .before) .args .n .kind) (not (eqb ((c .before .before .before .before) .args .n .kind) 13)) (optional ((c .before .before .before .before) .args .n .flags)) (entryLoose ((c .before .before .before .before) .args .first)) ((c .before .if1) .taken)
+returns c = (c .entry) .ensures ∙ entry-either ((c .before .before .before .before) .args .n .kind) (not (eqb ((c .before .before .before .before) .args .n .kind) 13)) (optional ((c .before .before .before .before) .args .n .flags)) (entryLoose ((c .before .before .before .before) .args .first)) ((c .before .if1) .taken)
 
 entry-requires-2 : tie.Need-entry-requires-2
 entry-requires-2 c κs = search needs
 
 returns-2 : tie.Need-returns-2
-returns-2 c = (c .entry2) .ensures ∙ entry-optional ((c .before .before .before .before .before) .args .n .kind) (not (eqb ((c .before .before .before .before .before) .args .n .kind) 13)) (optional ((c .before .before .before .before .before) .args .n .flags)) (entryLoose ((c .before .before .before .before .before) .args .first)) ((c .before .if2) .taken)
-
-entry-requires-3 : tie.Need-entry-requires-3
-entry-requires-3 c κs = search needs
-
-returns-3 : tie.Need-returns-3
-returns-3 c = (c .entry3) .ensures ∙ entry-neither ((c .before .before .before .before .before) .args .n .kind) (not (eqb ((c .before .before .before .before .before) .args .n .kind) 13)) (optional ((c .before .before .before .before .before) .args .n .flags)) (entryLoose ((c .before .before .before .before .before) .args .first)) ((c .before .if2) .left) ((c .before .before .if1) .left)
+returns-2 c = (c .entry2) .ensures ∙ entry-neither ((c .before .before .before .before) .args .n .kind) (not (eqb ((c .before .before .before .before) .args .n .kind) 13)) (optional ((c .before .before .before .before) .args .n .flags)) (entryLoose ((c .before .before .before .before) .args .first)) ((c .before .if1) .left)
 
 pub entry-above-spec : {M : Type 1} → statement M
-entry-above-spec =
-    tie.close
-    (tie.spec entry-requires returns entry-requires-2 returns-2 entry-requires-3 returns-3)
+entry-above-spec = tie.close (tie.spec entry-requires returns entry-requires-2 returns-2)
