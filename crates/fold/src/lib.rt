@@ -107,8 +107,8 @@ fn fold_large(file: &[u8], h: Header, output: &mut [u8]) -> Folded
 // Folds the record file `file` and lays the result down at the start of `output`; a refusal leaves `output` as it is, and so
 // it is with every byte past the result. What is returned and written is the definition `foldBytes`, of which demand 3 is
 // proved (`demand/proofs/Demand3.antt`): the run of the result is the run of the file, where the file's facts are true and no
-// initializer is the bare `eval`. A file is refused before any table is made. `fold_large` is called in two places, so that the compiler keeps it a function of its own: only a large file then
-// takes the stack of the large tables.
+// initializer is the bare `eval`. A file is refused before any table is made. `fold_large` is called in two places, so that the
+// compiler keeps it a function of its own: only a large file then takes the stack of the large tables.
 pub fn fold(file: &[u8], output: &mut [u8]) -> Folded
     ensures { λ r. ⌜ numbers r ≡ numbersOf (foldBytes (now (file .entry)) (length (now (output .entry)))) ⌝ }
     ensures { λ _. ⌜ now (output .exit) ≡ laidOver (foldBytes (now (file .entry)) (length (now (output .entry)))) (now (output .entry)) ⌝ }

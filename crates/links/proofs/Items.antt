@@ -21,7 +21,8 @@ use Rattle.plans.specs.Described.{Known}
 use Rattle.plans.specs.Search.{Searchable, SearchableRow, Searches}
 use Rattle.plans.specs.Shapes.{planned}
 use Rattle.links.specs.OfNode.{behind, isLeaf, movesLink, PassedLeaf}
-use Rattle.links.specs.Links.{linkPlan, planBehind, onward, IsLink, Goes, OfRow, TreesBack, no-trees, PassedRow, PassedItem}
+use Rattle.links.specs.Links.{linkPlan, planBehind, onward, IsLink, Goes, OfRow, TreesBack, no-trees}
+use Rattle.links.specs.Items.{PassedRow, PassedItem}
 use Rattle.links.proofs.Leaves.{leaf-by}
 use Rattle.links.proofs.Row.{row-none}
 use Rattle.links.proofs.Searching.{first-searchable}

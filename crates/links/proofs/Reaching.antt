@@ -18,7 +18,8 @@ use Rattle.plans.specs.Begins.{BeginsAt}
 use Rattle.plans.specs.Described.{Known}
 use Rattle.plans.specs.Search.{Searchable, SearchesRow}
 use Rattle.links.specs.OfNode.{gather}
-use Rattle.links.specs.Links.{linkPlan, linkLooks, planBehind, onward, IsLink, Goes, OfChildren, Steady, TreesBack, no-trees, Between, past-trees, past-target, Reaches, PassedItem, PassedNext, leftFrom, EntersAt, Links, start, link, Going, begun, through}
+use Rattle.links.specs.Items.{PassedItem, PassedNext}
+use Rattle.links.specs.Links.{linkPlan, linkLooks, planBehind, onward, IsLink, Goes, OfChildren, Steady, TreesBack, no-trees, Between, past-trees, past-target, Reaches, leftFrom, EntersAt, Links, start, link, Going, begun, through}
 use Rattle.links.proofs.TreesBefore.{back-on}
 use Rattle.links.proofs.Searching.{first-searchable}
 use Rattle.links.proofs.Nodes.{begun-row}

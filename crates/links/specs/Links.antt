@@ -24,8 +24,7 @@ use Rattle.plans.specs.Shapes.{planned}
 use Rattle.plans.specs.Plans.{isNothing}
 use Rattle.plans.specs.Described.{Describes}
 use Rattle.plans.specs.Passing.{stopsIn}
-use Rattle.plans.specs.Answers.{byPassing}
-use Rattle.plans.specs.Search.{allBareNames, Searchable, SearchableRow, Did, Searches, SearchesRow}
+use Rattle.plans.specs.Search.{allBareNames, Searchable, SearchableRow, Did, SearchesRow}
 use Rattle.links.specs.OfNode.{gather}
 
 -- the plan of a node that keeps neither a callee nor a tag
@@ -149,21 +148,6 @@ pub record Reaches (ctx : Context) (s : Sought) (table : List ℕ) (at child bef
   pub above : Above table at child before left effect looks
   pub enters : isNothing (planAt table s at before) ≡ false
   pub goes : Goes ctx s (OfChildren ctx s table at) (at + 1) table child left (planAt table s at before) effect looks
-
--- `many` trees, each of one node, are passed one after the other by any plan that enters each
-pub record PassedRow (ctx : Context) (s : Sought) (table : List ℕ) (at many : ℕ) (effect : Bool) (looks : ℕ) : Type 0 where
-  pub did : (p : Plan) → onward p ≡ true → SearchesRow ctx s table table at many p (byPassing true (record { 0 = at + many }) effect looks)
-  pub back : TreesBack table (at + many) at many effect looks
-
--- the tree of `many` nodes at a place is passed at once
-pub record PassedItem (ctx : Context) (s : Sought) (table : List ℕ) (at many looks : ℕ) : Type 0 where
-  pub effect : Bool
-  pub did : Searches ctx s table table at (byPassing true (record { 0 = at + many }) effect looks)
-  pub back : TreesBack table (at + many) at 1 effect looks
-
--- and so the search goes on behind it, among the children of `link` of which `left` are left
-abbrev pub PassedNext : Context → Sought → List ℕ → ℕ → NodeRecord → ℕ → ℕ → ℕ → Type 0
-PassedNext ctx s table at link left many looks = (2 ≤ left) × (onward (linkPlan s (shape (nodeOf link))) ≡ true) × PassedItem ctx s table at many looks
 
 -- how many children are left from the first that is searched on, where that stands so far behind the node: all, or the value
 abbrev pub leftFrom : NodeRecord → ℕ → ℕ

@@ -45,7 +45,7 @@ OfPassed ctx r stops s effect a q = isPassed (a .answer) ≡ true → (table : L
 abbrev pub OfAnswered : List ℕ → List ℕ → ℕ → NodeRecord → Bool → Walked → Walked → Type 0
 OfAnswered table table′ at r effect a q = isPassed (a .answer) ≡ false → (ctx : Context) (stops : Bool) (s : Sought) → OfNode ctx table table′ at r stops s (behind effect a) q
 
--- kinds of nodes that may have no children: arrays, objects and templates among them, a bare `yield` isn't
+-- kinds of nodes that may have no children, arrays, objects and templates among them; but not `yield`, which has an effect unmarked
 abbrev pub leafKind : ℕ → Bool
 leafKind k = eqb k 0 || eqb k 1 || eqb k 2 || eqb k 3 || eqb k 4 || eqb k 5 || eqb k 21 || eqb k 22 || eqb k 23 || eqb k 27 || eqb k 29 || eqb k 30
 

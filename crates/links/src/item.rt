@@ -9,7 +9,7 @@ ghost use Rattle.walk.specs.Context.{Context, contextOf};
 ghost use Rattle.plans.specs.Described.{Known};
 ghost use Rattle.plans.specs.Search.{Searchable, SearchableRow};
 ghost use Rattle.links.specs.OfNode.{PassedLeaf};
-ghost use Rattle.links.specs.Links.{PassedRow, PassedItem, PassedNext};
+ghost use Rattle.links.specs.Items.{PassedRow, PassedItem, PassedNext};
 use crate::leaf::is_leaf;
 use crate::leaf::leaf_effect;
 use crate::leaf::leaf_looks;

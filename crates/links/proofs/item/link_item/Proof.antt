@@ -6,7 +6,7 @@ use borrow.Author.Tests.{not-false}
 use Prim.Native.Nat.{_+_}
 use Rattle.plans.specs.Search.{SearchableRow}
 use Rattle.links.specs.OfNode.{movesLink}
-use Rattle.links.specs.Links.{PassedRow}
+use Rattle.links.specs.Items.{PassedRow}
 use Rattle.links.proofs.Searching.{searchable-room, first-searchable}
 use Rattle.links.proofs.Chain.{children-row}
 use Rattle.links.proofs.Items.{link-item}
