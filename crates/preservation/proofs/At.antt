@@ -18,6 +18,18 @@ use Rattle.preservation.proofs.Passing.{bind-same}
 unfoldable pub placedAt : ℕ → Node → Node
 placedAt p n = record { kind = n .kind; flags = n .flags; label = n .label; position = p }
 
+pub kept-at : {Value : Type 0} (p : ℕ) (f : Form) (n : Node) (b : Beside Value) → kept f (placedAt p n) b ≡ kept f n b
+unfolding kept placedAt isDelete
+kept-at p f n nothing = refl
+kept-at p f n bareEval = refl
+kept-at p f n (aTarget a) = refl
+kept-at p f n (opaqueTarget l) = refl
+kept-at p f n (member o k) = refl
+
+pub role-at : (p : ℕ) (f : Form) (n : Node) (role : Role) → firstRole f (placedAt p n) role ≡ firstRole f n role
+unfolding firstRole placedAt isDelete
+role-at p f n role = refl
+
 module _ {Value Rest : Type 0} (names : List NameFacts) (m : Meaning Value Rest) where
   held-at : (p : ℕ) (t : Bool) (n : Node) (x : Step Value) (s : State Value Rest) → held m t (placedAt p n) x s ≡ held m t n x s
   unfolding held placedAt isMarked
@@ -41,21 +53,9 @@ module _ {Value Rest : Type 0} (names : List NameFacts) (m : Meaning Value Rest)
   unfolding finished placedAt originOf isMember beside
   finished-at p f n role hs s = ap (λ o. bind o (λ w s′. gave (record { value = w; beside = beside names m f n hs }) s′)) (own-at p f n role (record { origin = originOf n role; hand = hs }) s)
 
-  kept-at : (p : ℕ) (f : Form) (n : Node) (b : Beside Value) → kept f (placedAt p n) b ≡ kept f n b
-  unfolding kept placedAt isDelete
-  kept-at p f n nothing = refl
-  kept-at p f n bareEval = refl
-  kept-at p f n (aTarget a) = refl
-  kept-at p f n (opaqueTarget l) = refl
-  kept-at p f n (member o k) = refl
-
   goesOn-at : (p : ℕ) (f : Form) (n : Node) (role : Role) (others : Turn → State Value Rest → Out Value Rest (List (Given Value))) (x : Given Value) (s : State Value Rest) → goesOn m f (placedAt p n) role others x s ≡ goesOn m f n role others x s
   unfolding goesOn originOf isMember
   goesOn-at p f n role others x s = rw (kept-at p f n (x .beside)) (unfold placedAt in refl)
-
-  role-at : (p : ℕ) (f : Form) (n : Node) (role : Role) → firstRole f (placedAt p n) role ≡ firstRole f n role
-  unfolding firstRole placedAt isDelete
-  role-at p f n role = refl
 
   children-at : (p : ℕ) (ts : Trees) (f : Form) (n : Node) (role : Role) (s : State Value Rest) → runChildren names m ts f (placedAt p n) role s ≡ runChildren names m ts f n role s
   unfolding run

@@ -38,7 +38,7 @@ module _ (f : File) (P Q : List Statement) (move : StopAt (contextOf f) P Q) (fi
   turned : Turned (move .name) (move .old) 0 (move .old) (move .new)
   turned = none-placed (move .old) (stopped-turned (contextOf f) (move .name) (move .initial) (move .old) (move .new) (move .ended)) refl
 
-  fit-here : fit (f .names) (move .old) ≡ true
+  pub fit-here : fit (f .names) (move .old) ≡ true
   fit-here = let a = fine .fits in let b = stop-trees-before move (misfit (f .names)) in one-off (fit (f .names) (move .old)) (omega (arith, a, b))
 
   either-same : (b : Bool) → (b || b) ≡ true → b ≡ true

@@ -15,11 +15,11 @@ use Rattle.runs.specs.Meaning.{Act, done, stops, Meaning}
 use Rattle.runs.specs.Form.{is, cleared, isMarked, Choice, never, logical, conditional, optionally, Form, constant, name, targetName, leaf, chain, property, importing, sequence, assignment, stepping, form, childless, isChain, choiceOf, firstRole}
 use Rattle.runs.specs.State.{Log, State, Out, gave, cut, stop, bind}
 use Rattle.runs.specs.Run.{Turn, all, skipped, second, third, takes, then, resolved, isRead, kept, listed, acted, caught, gathered, chosen, inTurn, stepped, queued, held, goesOn, own, beside, finished, runNode, run, runChildren, runOthers}
-use Rattle.runs.specs.Facts.{through}
+use Rattle.runs.specs.Facts.{through, isOfNode}
 use Rattle.preservation.proofs.Words.{within}
 use Rattle.preservation.proofs.Tables.{kindsOf, kinds}
 use Rattle.preservation.proofs.Ends.{Ends, gives, cuts, halts, First, stepOf, gathered-ends}
-use Rattle.preservation.proofs.Uses.{reads, allReads, targets, allTargets, Off, kept-off, first-off, off-read, off-target, off-through, gives-off, hand-off}
+use Rattle.preservation.proofs.Uses.{reads, allReads, targets, allTargets, Off, kept-off, first-off, off-read, off-target, off-through, gives-off, hand-off, of-node}
 
 -- a change of the state
 pub record Shift (Value Rest : Type 0) : Type 0 where
@@ -86,7 +86,7 @@ pub record Blind {Value Rest : Type 0} (m : Meaning Value Rest) (v : ℕ) (φ : 
   pub steps : (x : Step Value) (l : Log Value) → φ .to (listed x l) ≡ listed x (φ .to l)
   pub reads : (x : Step Value) → through v x ≡ false → (s : Store Value Rest) → m .reads x (φ .on s) ≡ m .reads x s
   pub chooses : (x : Step Value) → through v x ≡ false → (s : Store Value Rest) → m .chooses x (φ .on s) ≡ m .chooses x s
-  pub acts : (x : Step Value) → through v x ≡ false → (s : Store Value Rest) → m .acts x (φ .on s) ≡ within (φ .on) (m .acts x s)
+  pub acts : (x : Step Value) → isOfNode (x .origin) ≡ true → through v x ≡ false → (s : Store Value Rest) → m .acts x (φ .on s) ≡ within (φ .on) (m .acts x s)
 
 module _ {Value Rest : Type 0} (names : List NameFacts) (m : Meaning Value Rest) (v : ℕ) (φ : Shift Value Rest) (b : Blind m v φ) where
   acted-on : (l l′ : Log Value) (a a′ : Act Value Rest) → l ≡ φ .to l′ → a ≡ within (φ .on) a′ → acted l a ≡ shifted φ (acted l′ a′)
@@ -94,38 +94,38 @@ module _ {Value Rest : Type 0} (names : List NameFacts) (m : Meaning Value Rest)
   acted-on l l′ a (done w s) p q = rw (p, q)
   acted-on l l′ a stops p q = rw (p, q)
 
-  pub stepped-on : (t : Bool) (x : Step Value) (s : State Value Rest) → through v x ≡ false → stepped m t x (moved φ s) ≡ shifted φ (stepped m t x s)
+  stepped-on : (t : Bool) (x : Step Value) (s : State Value Rest) → isOfNode (x .origin) ≡ true → through v x ≡ false → stepped m t x (moved φ s) ≡ shifted φ (stepped m t x s)
   unfolding stepped moved
-  stepped-on true x s h = acted-on _ _ _ _ (sym (b .steps _ _)) (b .acts x h (s .store))
-  stepped-on false x s h = unfold shifted in rw (b .reads x h (s .store))
+  stepped-on true x s i h = acted-on _ _ _ _ (sym (b .steps _ _)) (b .acts x i h (s .store))
+  stepped-on false x s i h = unfold shifted in rw (b .reads x h (s .store))
 
   queued-on : (x : Step Value) (s : State Value Rest) → through v x ≡ false → queued m x (moved φ s) ≡ shifted φ (queued m x s)
   unfolding queued moved shifted
   queued-on x s h = rw (b .reads x h (s .store), b .steps x (s .log))
 
-  held-on : (t : Bool) (n : Node) (x : Step Value) (s : State Value Rest) → eqb (n .label) v ≡ false → through v x ≡ false → held m t n x (moved φ s) ≡ shifted φ (held m t n x s)
+  held-on : (t : Bool) (n : Node) (x : Step Value) (s : State Value Rest) → isOfNode (x .origin) ≡ true → eqb (n .label) v ≡ false → through v x ≡ false → held m t n x (moved φ s) ≡ shifted φ (held m t n x s)
   unfolding held
-  held-on true n x s e h = unfold moved shifted in rw (b .names (n .label) (s .store) e)
-  held-on false n x s e h = stepped-on (isMarked n) x s h
+  held-on true n x s i e h = unfold moved shifted in rw (b .names (n .label) (s .store) e)
+  held-on false n x s i e h = stepped-on (isMarked n) x s i h
 
   -- a node's own step, where neither the node nor what is in hand is of v
-  own-on : (f : Form) (n : Node) (role : Role) (x : Step Value) (s : State Value Rest) → kindsOf f n ≡ true → (is 4 n ≡ true → eqb (n .label) v ≡ false) → (is 29 n ≡ true → eqb (n .label) v ≡ false) → through v x ≡ false → own names m f n role x (moved φ s) ≡ shifted φ (own names m f n role x s)
+  own-on : (f : Form) (n : Node) (role : Role) (x : Step Value) (s : State Value Rest) → isOfNode (x .origin) ≡ true → kindsOf f n ≡ true → (is 4 n ≡ true → eqb (n .label) v ≡ false) → (is 29 n ≡ true → eqb (n .label) v ≡ false) → through v x ≡ false → own names m f n role x (moved φ s) ≡ shifted φ (own names m f n role x s)
   unfolding own kindsOf
-  own-on constant n role x s k e g h = gave-on φ s
-  own-on name n role x s k e g h = held-on (resolved names (n .label)) n x s (e k) h
-  own-on targetName n role x s k e g h = held-on (resolved names (n .label) && isRead role) n x s (g k) h
-  own-on leaf n role x s k e g h = stepped-on (isMarked n) x s h
-  own-on chain n role x s k e g h = gave-on φ s
-  own-on property n role x s k e g h = gave-on φ s
-  own-on importing n role x s k e g h = queued-on x s h
-  own-on sequence n role x s k e g h = gave-on φ s
-  own-on (assignment c) n role x s k e g h = stepped-on true x s h
-  own-on (stepping c) n role x s k e g h = stepped-on (isMarked n) x s h
+  own-on constant n role x s i k e g h = gave-on φ s
+  own-on name n role x s i k e g h = held-on (resolved names (n .label)) n x s i (e k) h
+  own-on targetName n role x s i k e g h = held-on (resolved names (n .label) && isRead role) n x s i (g k) h
+  own-on leaf n role x s i k e g h = stepped-on (isMarked n) x s i h
+  own-on chain n role x s i k e g h = gave-on φ s
+  own-on property n role x s i k e g h = gave-on φ s
+  own-on importing n role x s i k e g h = queued-on x s h
+  own-on sequence n role x s i k e g h = gave-on φ s
+  own-on (assignment c) n role x s i k e g h = stepped-on true x s i h
+  own-on (stepping c) n role x s i k e g h = stepped-on (isMarked n) x s i h
 
   pub finished-on : (f : Form) (n : Node) (role : Role) (hs : List (Given Value)) (s : State Value Rest) → kindsOf f n ≡ true → (is 4 n ≡ true → eqb (n .label) v ≡ false) → (is 29 n ≡ true → eqb (n .label) v ≡ false) → First (Off v) hs → finished names m f n role hs (moved φ s) ≡ shifted φ (finished names m f n role hs s)
   unfolding finished
   finished-on f n role hs s k e g h =
-      rw (own-on f n role (stepOf n role hs) s k e g (off-through v n role hs e g (first-off v hs h)))
+      rw (own-on f n role (stepOf n role hs) s (of-node n role) k e g (off-through v n role hs e g (first-off v hs h)))
       (shifted-bind φ (own names m f n role (stepOf n role hs) s) _ (λ w s′. gave-on φ s′))
 
   pub goesOn-on : (f : Form) (n : Node) (role : Role) (others : Turn → State Value Rest → Out Value Rest (List (Given Value))) (x : Given Value) (s : State Value Rest) → (is 4 n ≡ true → eqb (n .label) v ≡ false) → (is 29 n ≡ true → eqb (n .label) v ≡ false) → Off v (x .beside)

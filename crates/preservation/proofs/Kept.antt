@@ -23,7 +23,7 @@ use Rattle.runs.specs.Run.{Turn, all, skipped, second, third, takes, then, reso
 use Rattle.runs.specs.Facts.{through, isOfNode}
 use Rattle.preservation.proofs.Tables.{kindsOf, kinds, marked-cleared, link-cleared, name-form}
 use Rattle.preservation.proofs.Ends.{Ends, gives, halts, ends-bind, ends-cond, ends-map, First, stepOf, ends, ends-children}
-use Rattle.preservation.proofs.Uses.{targets, allTargets, Off, nothing-off, kept-off, first-off, off-target, off-through, aside-off, kids-targets, head-targets, tail-targets}
+use Rattle.preservation.proofs.Uses.{targets, allTargets, Off, nothing-off, kept-off, first-off, off-target, off-through, aside-off, kids-targets, head-targets, tail-targets, of-node}
 
 -- Without an effect.
 module _ {Value Rest : Type 0} (names : List NameFacts) (m : Meaning Value Rest) (s₀ : State Value Rest) where
@@ -134,10 +134,6 @@ module _ {Value Rest : Type 0} (names : List NameFacts) (m : Meaning Value Rest)
   node-keeps : (b : Bool) (n : Node) (role : Role) (hs : List (Given Value)) (s : State Value Rest) → is 4 n ≡ b → isOfNode (originOf n role) ≡ true → (is 29 n ≡ true → eqb (n .label) a ≡ false) → First (Off a) hs → K (s .store) → Keeps (own names m (form n) n role (stepOf n role hs) s)
   node-keeps true n role hs s e i h g p = rw (name-form n e) (unfold own in name-keeps (resolved names (n .label)) n role hs s refl i (λ q. off-through a n role hs (λ z. q) h (first-off a hs g)) p)
   node-keeps false n role hs s e i h g p = own-keeps (form n) n role (stepOf n role hs) s i (off-through a n role hs (λ z. clash (is 4 n) e z) h (first-off a hs g)) p
-
-  of-node : (n : Node) (role : Role) → isOfNode (originOf n role) ≡ true
-  unfolding isOfNode originOf
-  of-node n role = refl
 
   step-keeps : (n : Node) (ts : Trees) (role : Role) (hs : List (Given Value)) (s : State Value Rest) → targets a (node n ts) ≡ 0 → First (Off a) hs → K (s .store) → Keeps (own names m (form (cleared n)) (cleared n) role (stepOf (cleared n) role hs) s)
   step-keeps n ts role hs s h g p = node-keeps (is 4 (cleared n)) (cleared n) role hs s refl (of-node (cleared n) role) (off-target a n ts h) g p

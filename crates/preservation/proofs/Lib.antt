@@ -1,5 +1,7 @@
--- The fold of a single-use name keeps the run of a script: of one tree (OneFold), and of a whole file (Whole).
+-- The fold of a single-use name keeps the run of a script: of one tree (OneFold), and of a whole file (Whole,
+-- Unchanged).
 pub mod Tests
+pub mod OfAll
 -- runs: what they keep, and what they don't look at
 pub mod Words
 pub mod Ends
@@ -19,6 +21,7 @@ pub mod Placing
 pub mod Children
 pub mod Nodes
 pub mod Aims
+pub mod Entering
 pub mod Sound
 pub mod OneFold
 -- what a search makes of a tree
@@ -43,3 +46,13 @@ pub mod FineKept
 pub mod FoldKept
 pub mod Unseen
 pub mod Whole
+-- the facts of the steps that a file can make
+pub mod Cut
+pub mod Hands
+pub mod Within
+pub mod CutRuns
+pub mod MakesAt
+pub mod Gives
+pub mod SearchWithin
+pub mod MovesWithin
+pub mod Unchanged

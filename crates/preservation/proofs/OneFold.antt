@@ -9,7 +9,7 @@ use Rattle.runs.specs.Step.{value}
 use Rattle.runs.specs.State.{State, Out, bind}
 use Rattle.runs.specs.Run.{run}
 use Rattle.preservation.proofs.Setting.{Setting}
-use Rattle.preservation.proofs.Passing.{Framed, bind-same, first, drop, drop-bind, first-bind}
+use Rattle.preservation.proofs.Passing.{Forgets, bind-same, first, drop, forget-bind, first-bind}
 use Rattle.preservation.proofs.Placing.{over-bind, tidy, tidy-value}
 use Rattle.preservation.proofs.Placing as P
 use Rattle.preservation.proofs.Sound.{Asked, sound}
@@ -33,9 +33,9 @@ module _ {Value Rest : Type 0} (σ : Setting Value Rest) where
   placed t t′ a e s u = let g : P.Good σ t (replaced t′) = subst (λ x. P.Good σ t x) e (sound σ t a) in g .1 s u
 
   -- with whatever comes behind: all but the value of v is the same
-  pub one-fold : {B : Type 0} (t t′ : Tree) → Asked σ t → substituteInExpression (contextOf file) v r t ≡ replaced t′ → (K : Value → S → O B) → ((w : Value) → Framed σ (K w))
+  pub one-fold : {B : Type 0} (t t′ : Tree) → Asked σ t → substituteInExpression (contextOf file) v r t ≡ replaced t′ → (K : Value → S → O B) → ((w : Value) → Forgets σ (K w))
       → (s : S) → P.FairAt σ s t → D (first σ (λ s. bind (go t s) (λ x s′. K (x .value) s′)) s) ≡ D (bind (go t′ s) (λ x s′. K (x .value) s′))
   one-fold t t′ a e K k s u =
       ap D (first-bind σ (go t) _ s ∙ sym (over-bind (tidy σ t) _ _ ∙ bind-same _ _ _ (λ x s′. ap (λ w. K w s′) (tidy-value σ t x))))
-      ∙ drop-bind σ _ _ (λ x s′. K (x .value) s′) (λ x. k (x .value)) (placed t t′ a e s u)
+      ∙ forget-bind σ _ _ (λ x s′. K (x .value) s′) (λ x. k (x .value)) (placed t t′ a e s u)
       ∙ ap D (over-bind (tidy σ t) _ _ ∙ bind-same _ _ _ (λ x s′. ap (λ w. K w s′) (tidy-value σ t x)))

@@ -54,11 +54,11 @@ module _ {Value Rest : Type 0} where
 
   pub tail-blind : (m : Meaning Value Rest) (v : ℕ) (l : Log Value) → Blind m v (Tail l)
   unfolding Tail listed
-  tail-blind m v l = record { names = λ n s h. refl; steps = λ x k. refl; reads = λ x h s. refl; chooses = λ x h s. refl; acts = λ x h s. within-id _ }
+  tail-blind m v l = record { names = λ n s h. refl; steps = λ x k. refl; reads = λ x h s. refl; chooses = λ x h s. refl; acts = λ x i h s. within-id _ }
 
   pub put-blind : {m : Meaning Value Rest} {v : ℕ} → Blinds m v → (a : Value) → Blind m v (Put v a)
   unfolding Put set
-  put-blind f a = record { names = λ n s h. rw h; steps = λ x k. refl; reads = λ x h s. f .reads x h s a; chooses = λ x h s. f .chooses x h s a; acts = λ x h s. f .acts x h s a }
+  put-blind f a = record { names = λ n s h. rw h; steps = λ x k. refl; reads = λ x h s. f .reads x h s a; chooses = λ x h s. f .chooses x h s a; acts = λ x i h s. f .acts x i h s a }
 
   pub put-put : (v : ℕ) (d a : Value) (s : State Value Rest) → moved (Put v d) (moved (Put v a) s) ≡ moved (Put v d) s
   unfolding moved Put set
@@ -173,6 +173,22 @@ module _ {Value Rest : Type 0} (σ : Setting Value Rest) where
   drop-shift a (gave x s) = ap (gave x) (put-put v _ a s)
   drop-shift a (cut s) = ap cut (put-put v _ a s)
   drop-shift a (stop l) = unfold Put in refl
+
+  -- Two outcomes that are the same but for v stay so, whatever comes behind that doesn't tell its value. (It may set v.)
+  abbrev pub Forgets : {A : Type 0} → (S → O A) → Type 0
+  Forgets c = (a : Value) (s : S) → drop (c (moved (Put v a) s)) ≡ drop (c s)
+
+  pub framed-forgets : {A : Type 0} (c : S → O A) → Framed c → Forgets c
+  framed-forgets c h a s = ap drop (h a s) ∙ drop-shift a (c s)
+
+  drop-once : {A B : Type 0} (o : O A) (f : A → S → O B) → ((a : A) → Forgets (f a)) → drop (bind o f) ≡ drop (bind (drop o) f)
+  unfolding drop shifted bind Put
+  drop-once (gave a s) f h = sym (h a (m .undefined) s)
+  drop-once (cut s) f h = sym (ap cut (put-put v (m .undefined) (m .undefined) s))
+  drop-once (stop l) f h = refl
+
+  pub forget-bind : {A B : Type 0} (o o′ : O A) (f : A → S → O B) → ((a : A) → Forgets (f a)) → drop o ≡ drop o′ → drop (bind o f) ≡ drop (bind o′ f)
+  forget-bind o o′ f h e = drop-once o f h ∙ ap (λ o. drop (bind o f)) e ∙ sym (drop-once o′ f h)
 
   pub calm-drop : Calm → {A : Type 0} (c : S → O A) → Framed c → (s : S) → drop (first c s) ≡ drop (c s)
   calm-drop q c h s = rw (calm-first q c s, h (worth (s .store)) s) (drop-shift _ (c s))

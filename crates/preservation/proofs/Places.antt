@@ -16,12 +16,11 @@ use Rattle.runs.specs.Meaning.{Meaning}
 use Rattle.runs.specs.State.{State, Out, gave, bind}
 use Rattle.runs.specs.Run.{run}
 use Rattle.runs.specs.Script.{isPattern, declaresWith, runDeclarator, runDeclarators, gives, runStatement, runStatements}
-use Rattle.preservation.proofs.Frame.{shifted-bind}
 use Rattle.preservation.proofs.Setting.{Setting}
-use Rattle.preservation.proofs.Passing.{Framed, bind-assoc, gave-bind, drop}
+use Rattle.preservation.proofs.Passing.{Forgets, bind-assoc, gave-bind, drop}
 use Rattle.preservation.proofs.Placing as P
 use Rattle.preservation.proofs.Sound.{Asked}
-use Rattle.preservation.proofs.Program.{FreeDeclarators, FreeStatements, declarators-on, statements-on, with-on, gives-on}
+use Rattle.preservation.proofs.Program.{FreeDeclarators, FreeStatements, then-on, declarators-on, statements-on, with-on, gives-on}
 use Rattle.preservation.proofs.Site.{rest-run, fold-site}
 
 pub data Place : Type 0 where
@@ -79,19 +78,19 @@ module _ {Value Rest : Type 0} (names : List NameFacts) (m : Meaning Value Rest)
   place-run k (initializer k′ d ds) after t s = declaration-run k k′ (withTree d t ∷ ds) after s ∙ initializer-run k′ d ds after t s
 
 module _ {Value Rest : Type 0} (σ : Setting Value Rest) where
-  open Setting σ using (file, m, v, r, blind)
+  open Setting σ using (file, m, v, r)
 
   abbrev names : List NameFacts
   names = file .names
 
-  rest-framed : (k : DeclarationKind) (ds : List Declarator) (after : List Statement) → FreeDeclarators v ds → FreeStatements v after → Framed σ (rest-run names m k ds after)
-  rest-framed k ds after h g a s = rw (declarators-on names m v blind a k ds h s) (shifted-bind _ (runDeclarators names m k ds s) (λ u s′. runStatements names m after s′) (λ u s′. statements-on names m v blind a after g s′))
+  rest-on : (k : DeclarationKind) (ds : List Declarator) (after : List Statement) → FreeDeclarators v ds → FreeStatements v after → Forgets σ (rest-run names m k ds after)
+  rest-on k ds after h g = then-on σ (runDeclarators names m k ds) (λ u s′. runStatements names m after s′) (declarators-on σ k ds h) (λ u. statements-on σ after g)
 
-  behind-framed : (k : DeclarationKind) (p : Place) (after : List Statement) → FreeBehind v p after → (w : Value) → Framed σ (behind names m k p after w)
+  behind-on : (k : DeclarationKind) (p : Place) (after : List Statement) → FreeBehind v p after → (w : Value) → Forgets σ (behind names m k p after w)
   unfolding behind
-  behind-framed k (declarator d ds) after (e, h, g) w a s = rw (with-on names m v blind a k (d .name) w e s) (shifted-bind _ (declaresWith m k (d .name) w s) (λ u s′. rest-run names m k ds after s′) (λ u s′. rest-framed k ds after h g a s′))
-  behind-framed k statement after g w a s = rw (gives-on names m v blind a w s) (shifted-bind _ (gives w s) (λ u s′. runStatements names m after s′) (λ u s′. statements-on names m v blind a after g s′))
-  behind-framed k (initializer k′ d ds) after (e, h, g) w a s = rw (with-on names m v blind a k′ (d .name) w e s) (shifted-bind _ (declaresWith m k′ (d .name) w s) (λ u s′. rest-run names m k′ ds after s′) (λ u s′. rest-framed k′ ds after h g a s′))
+  behind-on k (declarator d ds) after (e, h, g) w = then-on σ (declaresWith m k (d .name) w) (λ u s′. rest-run names m k ds after s′) (with-on σ k (d .name) w e) (λ u. rest-on k ds after h g)
+  behind-on k statement after g w = then-on σ (gives w) (λ u s′. runStatements names m after s′) (gives-on σ w) (λ u. statements-on σ after g)
+  behind-on k (initializer k′ d ds) after (e, h, g) w = then-on σ (declaresWith m k′ (d .name) w) (λ u s′. rest-run names m k′ ds after s′) (with-on σ k′ (d .name) w e) (λ u. rest-on k′ ds after h g)
 
   -- One fold in a program keeps its run, the value of v apart.
   pub fold-program : (before : List Statement) (k : DeclarationKind) (ds : List Declarator) (p : Place) (after : List Statement) (t t′ : Tree) (s₀ : State Value Rest)
@@ -100,4 +99,4 @@ module _ {Value Rest : Type 0} (σ : Setting Value Rest) where
       → drop σ (runStatements names m (before ++ (declaration k (ds ++ (record { name = v; initializer = given r } ∷ declaratorsAt p t)) ∷ statementsAt p t after)) s₀)
       ≡ drop σ (runStatements names m (before ++ (declaration k (ds ++ declaratorsAt p t′) ∷ statementsAt p t′ after)) s₀)
   fold-program before k ds p after t t′ s₀ e g a q h u =
-      fold-site σ before k ds (declaratorsAt p t) (declaratorsAt p t′) (statementsAt p t after) (statementsAt p t′ after) t t′ (behind names m k p after) s₀ e g a q (place-run names m k p after t) (place-run names m k p after t′) (behind-framed k p after h) u
+      fold-site σ before k ds (declaratorsAt p t) (declaratorsAt p t′) (statementsAt p t after) (statementsAt p t′ after) t t′ (behind names m k p after) s₀ e g a q (place-run names m k p after t) (place-run names m k p after t′) (behind-on k p after h) u

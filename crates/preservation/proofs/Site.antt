@@ -18,7 +18,7 @@ use Rattle.runs.specs.Run.{run}
 use Rattle.runs.specs.Script.{isPattern, sets, declaresWith, runDeclarator, runDeclarators, runStatement, runStatements}
 use Rattle.preservation.proofs.Frame.{moved}
 use Rattle.preservation.proofs.Setting.{Setting}
-use Rattle.preservation.proofs.Passing.{Put, Framed, bind-assoc, bind-same, gave-bind, first, drop}
+use Rattle.preservation.proofs.Passing.{Put, Forgets, bind-assoc, bind-same, gave-bind, first, drop}
 use Rattle.preservation.proofs.Placing as P
 use Rattle.preservation.proofs.Sound.{Asked}
 use Rattle.preservation.proofs.OneFold.{one-fold}
@@ -125,7 +125,7 @@ module _ {Value Rest : Type 0} (σ : Setting Value Rest) where
   -- the fold of a declarator into a tree behind it, whatever comes behind that tree, keeps the run but for v
   pub fold-site : (before : List Statement) (k : DeclarationKind) (ds es es′ : List Declarator) (after after′ : List Statement) (t t′ : Tree) (K : Value → S → O (Unit {0})) (s₀ : S)
       → isUsing k ≡ false → isPattern v ≡ false → Asked σ t → substituteInExpression (contextOf file) v r t ≡ replaced t′
-      → Behind (rest-run names m k es after) t K → Behind (rest-run names m k es′ after′) t′ K → ((w : Value) → Framed σ (K w))
+      → Behind (rest-run names m k es after) t K → Behind (rest-run names m k es′ after′) t′ K → ((w : Value) → Forgets σ (K w))
       → ((s : S) → runStatements names m (before ++ (declaration k ds ∷ [])) s₀ ≡ gave tt s → P.FairAt σ s t)
       → D (runStatements names m (before ++ (declaration k (ds ++ (declarator ∷ es)) ∷ after)) s₀) ≡ D (runStatements names m (before ++ (declaration k (ds ++ es′) ∷ after′)) s₀)
   fold-site before k ds es es′ after after′ t t′ K s₀ e g a q b b′ f u =

@@ -13,12 +13,12 @@ use Rattle.records.specs.File.{firstTree}
 use Rattle.records.specs.Place.{root, mayStand, mayBeLoose, loose, standUnder, placed, allPlaced}
 use Rattle.records.specs.Count.{usesIn}
 use Rattle.records.specs.declared.layout.NameFacts.{NameFacts}
-use Rattle.records.proofs.Tests.{clash, neither}
+use Rattle.records.proofs.Tests.{clash, both, neither}
 use Rattle.walk.specs.Context.{Context, contextOf}
 use Rattle.walk.specs.Effect.{hasEffect, mayHaveSideEffects, anyHasSideEffects}
 use Rattle.walk.specs.Target.{mayDependOnSideEffect}
 use Rattle.walk.specs.Shape.{isMemberExpression, Choice as Way, never as always, skips, cuts, picks, Shape, constant as literal, identifier, targetName as aim, leaf as lone, chain as links, import, delete, sequence as row, property as pair, stopping, assignment as assigning, steps, shape}
-use Rattle.walk.specs.Substitute.{Answer, replaced, passed, Plan, all as every, nothing as none-at-all, value as behind, tag, next, at, preserveIndirectAccess, isSpecificId, keepsCallee, isMemberTag, keepsIndirect, stopsAtTarget, planFor, plan, mayPass, substituteInExpression, substituteInChildren}
+use Rattle.walk.specs.Substitute.{Answer, replaced, passed, Plan, all as every, first as leading, nothing as none-at-all, value as behind, test, tag, next, at, preserveIndirectAccess, isSpecificId, keepsCallee, isMemberTag, keepsIndirect, stopsAtTarget, planFor, plan, mayPass, substituteInExpression, substituteInChildren}
 use Rattle.runs.specs.Hand.{Beside, nothing, bareEval, targetName as aTarget, opaqueTarget, member, Given, only, lastOr}
 use Rattle.runs.specs.Step.{value, target}
 use Rattle.runs.specs.Form.{is, cleared, isDelete, Form, chain, property, importing, sequence, assignment, stepping, never, logical, conditional, optionally, form, order, childless, isName, isChain, isPlain, isAssignment, choiceOf, firstRole}
@@ -34,29 +34,13 @@ use Rattle.preservation.proofs.Passing.{bind-assoc, bind-same, gave-bin
 use Rattle.preservation.proofs.Frame.{moved}
 use Rattle.preservation.proofs.WellMade.{wellMade, allWellMade, well-node, well-more, named-in}
 use Rattle.preservation.proofs.Open.{calm, free-frame, by-still, by-reorder, by-shape}
-use Rattle.preservation.proofs.Bare.{other-kind}
+use Rattle.preservation.proofs.Entering.{spills, Entering, Enters, kept-value, value-of-value, plan-enters}
 use Rattle.preservation.proofs.Placing.{over, forks, isNothing, tidy, tidy-value, plan-good}
 use Rattle.preservation.proofs.Placing as P
 use Rattle.preservation.proofs.Children.{lets, Other, straight, choose, Links, Parts, part-good}
 use Rattle.preservation.proofs.Children as C
 use Rattle.preservation.proofs.Nodes.{first-name, at-name, shaped, run-as, drop-over, node-good, bared}
 use Rattle.preservation.proofs.Aims.{ThisKnown, AllThisKnown, known-kids, known-head, known-tail, target-why, none-why}
-
-undelete : (n : Node) → is 9 n ≡ false → isDelete (cleared n) ≡ false
-unfolding isDelete cleared
-undelete n e = rw e
-
-first-value : (f : Form) (n : Node) → isPlain f ≡ false → isDelete n ≡ false → firstRole f n value ≡ value
-unfolding firstRole
-first-value f n e g = rw (e, g) (same-cond (isChain f) value)
-
-kept-none : {Value : Type 0} (f : Form) (n : Node) (b : Beside Value) → is 14 n ≡ false → is 24 n ≡ false → isDelete n ≡ false → isAssignment f ≡ false → isChain f ≡ false → kept f n b ≡ nothing
-unfolding kept
-kept-none f n nothing a b c d e = refl
-kept-none f n bareEval a b c d e = rw a
-kept-none f n (aTarget t) a b c d e = rw d
-kept-none f n (opaqueTarget l) a b c d e = rw d
-kept-none f n (member o k) a b c d e = rw (a, b, c, d, e)
 
 module _ {Value Rest : Type 0} (σ : Setting Value Rest) where
   open Setting σ using (file, m, v, r)
@@ -85,53 +69,22 @@ module _ {Value Rest : Type 0} (σ : Setting Value Rest) where
   abbrev Why : {A : Type 0} → S → (S → O A) → Type 0
   Why s c = Reason σ s c
 
-  -- where r would take the name's place with more than its value
-  abbrev spills : Tree → Bool
-  spills t = isSpecificId v (root t) && isMemberTag r
-
-  tidy-off : (t : Tree) (x : Given Value) → spills t ≡ false → tidy σ t x ≡ x
+  tidy-off : (t : Tree) (x : Given Value) → spills v r t ≡ false → tidy σ t x ≡ x
   unfolding tidy
   tidy-off t x e = rw e
 
-  tidy-on : (t : Tree) (x : Given Value) → spills t ≡ true → tidy σ t x ≡ only (x .value)
-  unfolding tidy
-  tidy-on t x e = rw e
+  -- what a node keeps of the name's value it keeps of r's
+  keep-by : (b : Bool) (f : Form) (n : Node) (t : Tree) → spills v r t ≡ b → Entering v r f n t → C.Searching σ f n t
+  keep-by true f n t q e x =
+      let (g, h) = both (isSpecificId v (root t)) (isMemberTag r) q in
+      kept-value v r f n t e g h (tidy σ t x .beside) ∙ sym (kept-value v r f n t e g h (x .beside))
+  keep-by false f n t q e x = ap (λ (x : Given Value). kept f n (x .beside)) (tidy-off t x q)
 
-  keep-by : (b : Bool) (f : Form) (n : Node) (t : Tree) → spills t ≡ b → (is 14 n && b) ≡ false → (is 24 n && b) ≡ false → isDelete n ≡ false → isAssignment f ≡ false → isChain f ≡ false → C.Searching σ f n t
-  keep-by true f n t q a b c d e x =
-      ap (λ (x : Given Value). kept f n (x .beside)) (tidy-on t x q)
-      ∙ kept-none f n nothing (and-on (is 14 n) a) (and-on (is 24 n) b) c d e
-      ∙ sym (kept-none f n (x .beside) (and-on (is 14 n) a) (and-on (is 24 n) b) c d e)
-    where
-      and-on : (x : Bool) → (x && true) ≡ false → x ≡ false
-      and-on true e = e
-      and-on false e = refl
-  keep-by false f n t q a b c d e x = ap (λ (x : Given Value). kept f n (x .beside)) (tidy-off t x q)
+  search-keep : (f : Form) (n : Node) (t : Tree) → Entering v r f n t → C.Searching σ f n t
+  search-keep f n t e = keep-by (spills v r t) f n t refl e
 
-  search-keep : (f : Form) (n : Node) (t : Tree) → (is 14 n && spills t) ≡ false → (is 24 n && spills t) ≡ false → isDelete n ≡ false → isAssignment f ≡ false → isChain f ≡ false → C.Searching σ f n t
-  search-keep f n t a b c d e = keep-by (spills t) f n t refl a b c d e
-
-  -- a kind that keeps nothing of its first child
-  of-kind : (f : Form) (n : Node) (k : ℕ) (t : Tree) → is k n ≡ true → eqb k 14 ≡ false → eqb k 24 ≡ false → eqb k 9 ≡ false → isAssignment f ≡ false → isChain f ≡ false → C.Searching σ f (cleared n) t
-  unfolding cleared
-  of-kind f n k t e a b c d g = search-keep f (cleared n) t (rw (other-kind n k 14 e a)) (rw (other-kind n k 24 e b)) (undelete n (other-kind n k 9 e c)) d g
-
-  -- the child of a chain is no name
-  chain-child : (n : Node) (t : Tree) (ts : Trees) → is 13 n ≡ true → standUnder n 0 (more t ts) ≡ true → spills t ≡ false
-  unfolding mayStand isSpecificId
-  chain-child n t ts e h = not-name (root t) (rw (eqb-true (n .kind) 13 e) at (stands n 0 t ts h .0))
-    where
-      not-name : (k : Node) → isLink (k .kind) ≡ true → ((is 4 k && eqb (k .label) v) && isMemberTag r) ≡ false
-      not-name k g = rw (no-link k g)
-        where
-          no-link : (k : Node) → isLink (k .kind) ≡ true → is 4 k ≡ false
-          no-link k g =
-              by-or (is 10 k || is 11 k || is 12 k) (is 14 k)
-              (λ q. by-or (is 10 k || is 11 k) (is 12 k) (λ q. by-or (is 10 k) (is 11 k) (λ q. other-kind k 10 4 q refl) (λ q. other-kind k 11 4 q refl) q) (λ q. other-kind k 12 4 q refl) q)
-              (λ q. other-kind k 14 4 q refl) g
-
-  chain-keep : (f : Form) (n : Node) (t : Tree) → spills t ≡ false → C.Searching σ f n t
-  chain-keep f n t e x = ap (λ (x : Given Value). kept f n (x .beside)) (tidy-off t x e)
+  search-value : (f : Form) (n : Node) (t : Tree) → Entering v r f n t → C.First-value σ f n
+  search-value f n t e = value-of-value f n (e .unassigned) (e .undeleted)
 
   -- r put aside in the place of a tag
   abbrev aside : ℕ → Tree → Tree
@@ -169,50 +122,21 @@ module _ {Value Rest : Type 0} (σ : Setting Value Rest) where
       ∙ drop-over σ bared _ _ h
       ∙ ap D (bared-tidy t (go t′ s) ∙ sym (aside-run t′ s))
 
-  -- a called name keeps its place
-  member-root : (t : Tree) → (isMemberExpression (root t) || is 13 (root t)) ≡ false → isMemberTag t ≡ false
-  unfolding isMemberTag
-  member-root (node n ts) e = let (p, q) = neither (isMemberExpression n) (is 13 n) e in rw (p, q)
+  -- what each plan may count on
+  tag-links : (b : Bool) (n : Node) (t : Tree) (ts : Trees) → Enters v r (cond b tag every) (stepping never) (cleared n) t → Links σ (cond b tag every) (stepping never) (cleared n) t ts
+  unfolding choiceOf next isPlain isAssignment isChain order
+  tag-links true n t ts (e, d, a, c) = (aside-good t e, straight refl tt, value-of-value (stepping never) (cleared n) a d)
+  tag-links false n t ts e = (search-keep (stepping never) (cleared n) t e, straight refl tt, search-value (stepping never) (cleared n) t e)
 
-  call-by : (x y z b : Bool) (t : Tree) → ((x || y) && z && b) ≡ false → (isMemberExpression (root r) || is 13 (root r)) ≡ z → is 4 (root t) ≡ b → (x && spills t) ≡ false
-  unfolding isSpecificId
-  call-by false y z b t e g h = refl
-  call-by true y true true t e g h = clash true e refl
-  call-by true y true false t e g h = rw h
-  call-by true y false b t e g h = rw (member-root r g) (and-off (is 4 (root t) && eqb (root t .label) v) false refl)
+  calm-links : (x : Bool) (f : Form) (n : Node) (t : Tree) (ts : Trees) → mayHaveSideEffects r ≡ x → ((w : Turn) → lets (choiceOf f) w ≡ true → P.Meant σ every w) → Enters v r (cond x leading every) f n t → Links σ (cond x leading every) f n t ts
+  unfolding next
+  calm-links true f n t ts e l h = (search-keep f n t h, search-value f n t h)
+  calm-links false f n t ts e l h = (search-keep f n t h, choose (calm σ e) l, search-value f n t h)
 
-  called : (n : Node) (t : Tree) (ts : Trees) → keepsCallee r n (more t ts) ≡ false → (is 14 n && spills t) ≡ false
-  unfolding keepsCallee firstTree
-  called n t ts e = call-by (is 14 n) (is 15 n) (isMemberExpression (root r) || is 13 (root r)) (is 4 (root t)) t e refl refl
-
-  step-value : (w : Way) (n : Node) → isDelete (cleared n) ≡ false → C.First-value σ (stepping (choosing w)) (cleared n)
-  unfolding isPlain order
-  step-value w n e = first-value (stepping (choosing w)) (cleared n) refl e
-
-  regroup : (x y z : Bool) → (x && y && z) ≡ false → (x && (y && z)) ≡ false
-  regroup true y z e = e
-  regroup false y z e = refl
-
-  plain-links : (b : Bool) (n : Node) (t : Tree) (ts : Trees) → keepsIndirect v r n (more t ts) ≡ b → (is 14 n && spills t) ≡ false → isDelete (cleared n) ≡ false → Links σ (cond b tag every) (stepping never) (cleared n) t ts
-  unfolding keepsIndirect firstTree cleared choosing choiceOf next isAssignment isChain order
-  plain-links true n t ts e h d = (aside-good t (and-mid (is 24 n) (isSpecificId v (root t)) (isMemberTag r) e), straight refl tt, step-value always n d)
-  plain-links false n t ts e h d = (search-keep (stepping never) (cleared n) t h (regroup (is 24 n) (isSpecificId v (root t)) (isMemberTag r) e) d refl refl, straight refl tt, step-value always n d)
-
-  cut-not : (n : Node) (k : ℕ) → (isMemberExpression n || is 14 n) ≡ true → eqb 10 k ≡ false → eqb 11 k ≡ false → eqb 12 k ≡ false → eqb 14 k ≡ false → is k n ≡ false
-  cut-not n k e a b c d =
-      by-or (is 10 n || is 11 n || is 12 n) (is 14 n)
-      (λ q. by-or (is 10 n || is 11 n) (is 12 n) (λ q. by-or (is 10 n) (is 11 n) (λ q. other-kind n 10 k q a) (λ q. other-kind n 11 k q b) q) (λ q. other-kind n 12 k q c) q)
-      (λ q. other-kind n 14 k q d) e
-
-  way-links : (w : Way) (x : Bool) (n : Node) (t : Tree) (ts : Trees) → mayHaveSideEffects r ≡ x → shapeKinds (steps w) n ≡ true → (is 14 n && spills t) ≡ false → Links σ (planFor ctx v r w n (more t ts)) (stepping (choosing w)) (cleared n) t ts
-  unfolding planFor shapeKinds choosing choiceOf next isAssignment isChain order
-  way-links always x n t ts e k h = plain-links (keepsIndirect v r n (more t ts)) n t ts refl h (unfold isDelete cleared in not-true _ k)
-  way-links skips true n t ts e k h = rw e (of-kind (stepping logical) n 17 t k refl refl refl refl refl, step-value skips n (undelete n (other-kind n 17 9 k refl)))
-  way-links skips false n t ts e k h = rw e (of-kind (stepping logical) n 17 t k refl refl refl refl refl, choose (calm σ e) (λ w l. tt), step-value skips n (undelete n (other-kind n 17 9 k refl)))
-  way-links cuts true n t ts e k h = rw e (search-keep (stepping optionally) (cleared n) t (unfold cleared in h) (unfold cleared in rw (cut-not n 24 k refl refl refl refl)) (undelete n (cut-not n 9 k refl refl refl refl)) refl refl, step-value cuts n (undelete n (cut-not n 9 k refl refl refl refl)))
-  way-links cuts false n t ts e k h = rw e (search-keep (stepping optionally) (cleared n) t (unfold cleared in h) (unfold cleared in rw (cut-not n 24 k refl refl refl refl)) (undelete n (cut-not n 9 k refl refl refl refl)) refl refl, choose (calm σ e) (λ w l. tt), step-value cuts n (undelete n (cut-not n 9 k refl refl refl refl)))
-  way-links picks true n t ts e k h = rw e (of-kind (stepping conditional) n 19 t k refl refl refl refl refl, step-value picks n (undelete n (other-kind n 19 9 k refl)))
-  way-links picks false n t ts e k h = rw e (of-kind (stepping conditional) n 19 t k refl refl refl refl refl, choose (calm σ e) fork, step-value picks n (undelete n (other-kind n 19 9 k refl)))
+  fork-links : (x : Bool) (n : Node) (t : Tree) (ts : Trees) → mayHaveSideEffects r ≡ x → Enters v r (cond x leading test) (stepping conditional) n t → Links σ (cond x leading test) (stepping conditional) n t ts
+  unfolding choiceOf next
+  fork-links true n t ts e h = (search-keep (stepping conditional) n t h, search-value (stepping conditional) n t h)
+  fork-links false n t ts e h = (search-keep (stepping conditional) n t h, choose (calm σ e) fork, search-value (stepping conditional) n t h)
     where
       fork : (w : Turn) → lets conditional w ≡ true → forks w ≡ true
       fork all l = unfold lets in clash false refl l
@@ -220,9 +144,16 @@ module _ {Value Rest : Type 0} (σ : Setting Value Rest) where
       fork second l = unfold forks in refl
       fork third l = unfold forks in refl
 
-  callee-links : (b : Bool) (w : Way) (n : Node) (t : Tree) (ts : Trees) → keepsCallee r n (more t ts) ≡ b → shapeKinds (steps w) n ≡ true → Links σ (cond b none-at-all (planFor ctx v r w n (more t ts))) (stepping (choosing w)) (cleared n) t ts
-  callee-links true w n t ts e k = tt
-  callee-links false w n t ts e k = way-links w (mayHaveSideEffects r) n t ts refl k (called n t ts e)
+  way-links : (w : Way) (n : Node) (t : Tree) (ts : Trees) → Enters v r (planFor ctx v r w n (more t ts)) (stepping (choosing w)) (cleared n) t → Links σ (planFor ctx v r w n (more t ts)) (stepping (choosing w)) (cleared n) t ts
+  unfolding planFor choosing
+  way-links always n t ts h = tag-links (keepsIndirect v r n (more t ts)) n t ts h
+  way-links skips n t ts h = calm-links (mayHaveSideEffects r) (stepping logical) (cleared n) t ts refl (λ w l. tt) h
+  way-links cuts n t ts h = calm-links (mayHaveSideEffects r) (stepping optionally) (cleared n) t ts refl (λ w l. tt) h
+  way-links picks n t ts h = fork-links (mayHaveSideEffects r) (cleared n) t ts refl h
+
+  callee-links : (b : Bool) (w : Way) (n : Node) (t : Tree) (ts : Trees) → Enters v r (cond b none-at-all (planFor ctx v r w n (more t ts))) (stepping (choosing w)) (cleared n) t → Links σ (cond b none-at-all (planFor ctx v r w n (more t ts))) (stepping (choosing w)) (cleared n) t ts
+  callee-links true w n t ts h = tt
+  callee-links false w n t ts h = way-links w n t ts h
 
   -- An assignment: its target has a reason.
   abbrev Aimed : Tree → Type 0
@@ -263,29 +194,33 @@ module _ {Value Rest : Type 0} (σ : Setting Value Rest) where
       not-loose true e = sym e
       not-loose false e = refl
 
-  property-links : (b : Bool) (n : Node) (t : Tree) (ts : Trees) → is 26 n ≡ true → Links σ (cond b none-at-all every) property (cleared n) t ts
-  unfolding choiceOf next isPlain isAssignment isChain order
-  property-links true n t ts k = tt
-  property-links false n t ts k = (of-kind property n 26 t k refl refl refl refl refl, straight refl tt, first-value property (cleared n) refl (undelete n (other-kind n 26 9 k refl)))
+  all-links : (f : Form) (n : Node) (t : Tree) (ts : Trees) → choiceOf f ≡ never → Entering v r f n t → Links σ every f n t ts
+  unfolding next
+  all-links f n t ts e h = (search-keep f n t h, straight e tt, search-value f n t h)
 
-  stopping-not : (n : Node) (k : ℕ) → (is 26 n || is 25 n) ≡ true → eqb 26 k ≡ false → eqb 25 k ≡ false → is k n ≡ false
-  stopping-not n k e a b = by-or (is 26 n) (is 25 n) (λ q. other-kind n 26 k q a) (λ q. other-kind n 25 k q b) e
+  property-links : (b : Bool) (n : Node) (t : Tree) (ts : Trees) → Enters v r (cond b none-at-all every) property n t → Links σ (cond b none-at-all every) property n t ts
+  unfolding choiceOf next
+  property-links true n t ts h = tt
+  property-links false n t ts h = all-links property n t ts refl h
+
+  shape-links : (sh : Shape) (n : Node) (t : Tree) (ts : Trees) → shapeKinds sh n ≡ true → standUnder n 0 (more t ts) ≡ true → wellMade names t ≡ true → targets v t ≡ 0 → ThisKnown σ t
+      → Enters v r (plan ctx v r sh n (more t ts)) (formOf sh) (cleared n) t → Links σ (plan ctx v r sh n (more t ts)) (formOf sh) (cleared n) t ts
+  unfolding plan shapeKinds formOf choosing firstTree choiceOf next
+  shape-links literal n t ts k p a b c h = tt
+  shape-links identifier n t ts k p a b c h = tt
+  shape-links aim n t ts k p a b c h = tt
+  shape-links lone n t ts k p a b c h = tt
+  shape-links links n t ts k p a b c h = all-links chain (cleared n) t ts refl h
+  shape-links import n t ts k p a b c h = all-links importing (cleared n) t ts refl h
+  shape-links delete n t ts k p a b c h = tt
+  shape-links row n t ts k p a b c h = all-links sequence (cleared n) t ts refl h
+  shape-links pair n t ts k p a b c h = property-links (computed (n .flags)) (cleared n) t ts h
+  shape-links stopping n t ts k p a b c h = (search-keep (stepping never) (cleared n) t h, search-value (stepping never) (cleared n) t h)
+  shape-links (assigning x) n t ts k p a b c h = assign-links x (cleared n) t ts (a, b, c, tight-target n t ts k p)
+  shape-links (steps w) n t ts k p a b c h = callee-links (keepsCallee r n (more t ts)) w n t ts h
 
   plan-links : (sh : Shape) (n : Node) (t : Tree) (ts : Trees) → shapeKinds sh n ≡ true → standUnder n 0 (more t ts) ≡ true → wellMade names t ≡ true → targets v t ≡ 0 → ThisKnown σ t → Links σ (plan ctx v r sh n (more t ts)) (formOf sh) (cleared n) t ts
-  unfolding plan shapeKinds formOf choosing firstTree choiceOf next isPlain isAssignment isChain order
-  plan-links literal n t ts k p a b c = tt
-  plan-links identifier n t ts k p a b c = tt
-  plan-links aim n t ts k p a b c = tt
-  plan-links lone n t ts k p a b c = tt
-  plan-links links n t ts k p a b c = (chain-keep chain (cleared n) t (chain-child n t ts k p), straight refl tt, first-value chain (cleared n) refl (undelete n (other-kind n 13 9 k refl)))
-  plan-links import n t ts k p a b c = (of-kind importing n 8 t k refl refl refl refl refl, straight refl tt, first-value importing (cleared n) refl (undelete n (other-kind n 8 9 k refl)))
-  plan-links delete n t ts k p a b c = tt
-  plan-links row n t ts k p a b c = (of-kind sequence n 28 t k refl refl refl refl refl, straight refl tt, first-value sequence (cleared n) refl (undelete n (other-kind n 28 9 k refl)))
-  plan-links pair n t ts k p a b c = property-links (computed (n .flags)) n t ts k
-  plan-links stopping n t ts k p a b c =
-      (search-keep (stepping never) (cleared n) t (unfold cleared in rw (stopping-not n 14 k refl refl)) (unfold cleared in rw (stopping-not n 24 k refl refl)) (undelete n (stopping-not n 9 k refl refl)) refl refl, step-value always n (undelete n (stopping-not n 9 k refl refl)))
-  plan-links (assigning x) n t ts k p a b c = assign-links x (cleared n) t ts (a, b, c, tight-target n t ts k p)
-  plan-links (steps w) n t ts k p a b c = callee-links (keepsCallee r n (more t ts)) w n t ts refl k
+  plan-links sh n t ts k p a b c = shape-links sh n t ts k p a b c (plan-enters v r ctx sh n t ts k p)
 
   -- a node without children is not searched
   childless-plan : (sh : Shape) (n : Node) (ts : Trees) → childless (formOf sh) ≡ true → isNothing (plan ctx v r sh n ts) ≡ true

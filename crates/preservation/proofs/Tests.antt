@@ -2,7 +2,7 @@
 use Prim.Native.Nat.{_≤_}
 use native.Mathlib.Omega.{arith}
 use mathlib.Core.Bool.{Bool, true, false, cond, _&&_, _||_, not}
-use mathlib.Core.Path.{_≡_, refl}
+use mathlib.Core.Path.{_≡_, refl, sym, _∙_}
 use Rattle.records.specs.File.{one}
 use Rattle.records.proofs.Tests.{both}
 
@@ -12,6 +12,10 @@ and-mid x y z e = both x y (both (x && y) z e .0) .1
 pub and-off : (x y : Bool) → y ≡ false → (x && y) ≡ false
 and-off true y e = e
 and-off false y e = refl
+
+pub and-on : (x y : Bool) → y ≡ true → (x && y) ≡ false → x ≡ false
+and-on true y g e = sym g ∙ e
+and-on false y g e = refl
 
 pub or-left : (x y : Bool) → x ≡ true → (x || y) ≡ true
 or-left true y e = refl

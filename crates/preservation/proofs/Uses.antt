@@ -19,9 +19,14 @@ use Rattle.runs.specs.Meaning.{Meaning}
 use Rattle.runs.specs.Form.{is, cleared, isDelete, Form, form, isName, isChain, isAssignment, originOf}
 use Rattle.runs.specs.State.{State, Out}
 use Rattle.runs.specs.Run.{kept, own, beside, run, runChildren}
-use Rattle.runs.specs.Facts.{isTargetOf, aims, throughBy, through}
+use Rattle.runs.specs.Facts.{isTargetOf, aims, throughBy, through, isOfNode}
 use Rattle.preservation.proofs.Tests.{and-off}
 use Rattle.preservation.proofs.Ends.{Ends, ends-any, First, stepOf, Given-ends, Hand-ends, ends, ends-children}
+
+-- the step of a node is one
+pub of-node : (n : Node) (role : Role) → isOfNode (originOf n role) ≡ true
+unfolding isOfNode originOf
+of-node n role = refl
 
 -- how often a tree reads a name, and how often the name is a target in it
 abbrev pub reads : ℕ → Tree → ℕ

@@ -10,18 +10,20 @@ use mathlib.Core.List.{List}
 use Rattle.runs.specs.Store.{Store, set}
 use Rattle.runs.specs.Step.{Step}
 use Rattle.runs.specs.Meaning.{Act, done, stops, Meaning}
-use Rattle.runs.specs.Facts.{readsStand, writesStand, through, AgreeBut, ActsAlike, both-done, both-stop, Facts}
+use Rattle.runs.specs.Facts.{readsStand, writesStand, through, isOfNode, AgreeBut, ActsAlike, both-done, both-stop}
+use Rattle.preservation.proofs.OfAll.{FactsOfAll}
 
 -- what is done, with the store changed
 unfoldable pub within : {Value Rest : Type 0} → (Store Value Rest → Store Value Rest) → Act Value Rest → Act Value Rest
 within f (done w s) = done w (f s)
 within f stops = stops
 
--- the value of a name makes no difference but through it, and nothing else writes it
+-- the value of a name makes no difference but through it, and no other step of a node writes it
 pub record Blinds {Value Rest : Type 0} (m : Meaning Value Rest) (v : ℕ) : Type 0 where
   pub reads : (x : Step Value) → through v x ≡ false → (s : Store Value Rest) (a : Value) → m .reads x (set v a s) ≡ m .reads x s
   pub chooses : (x : Step Value) → through v x ≡ false → (s : Store Value Rest) (a : Value) → m .chooses x (set v a s) ≡ m .chooses x s
-  pub acts : (x : Step Value) → through v x ≡ false → (s : Store Value Rest) (a : Value) → m .acts x (set v a s) ≡ within (set v a) (m .acts x s)
+  pub acts : (x : Step Value) → isOfNode (x .origin) ≡ true → through v x ≡ false → (s : Store Value Rest) (a : Value) → m .acts x (set v a s) ≡ within (set v a) (m .acts x s)
+  pub binds : (x : Step Value) → through v x ≡ false → (s : Store Value Rest) (a : Value) → ActsAlike v (m .acts x (set v a s)) (m .acts x s)
 
 module _ {Value Rest : Type 0} (v : ℕ) (a : Value) where
   set-at : (b : Bool) (n : ℕ) (s s′ : Store Value Rest) → eqb n v ≡ b → AgreeBut v s s′ → s .names v ≡ a → s .names n ≡ cond b a (s′ .names n)
@@ -46,9 +48,10 @@ module _ {Value Rest : Type 0} (v : ℕ) (a : Value) where
   set-here s = rw (eq-eqb v v refl)
 
 -- what the facts of a file say of such a name
-pub blinds : {Value Rest : Type 0} {f : File} {trace : List Fold} {m : Meaning Value Rest} {start : Store Value Rest} (v : ℕ) → Facts f trace m start → readsStand f v ≡ true → writesStand f v ≡ true → Blinds m v
+pub blinds : {Value Rest : Type 0} {f : File} {trace : List Fold} {m : Meaning Value Rest} {start : Store Value Rest} (v : ℕ) → FactsOfAll f trace m start → readsStand f v ≡ true → writesStand f v ≡ true → Blinds m v
 blinds {m = m} v facts r w = record {
   reads = λ x e s a. facts .reads-hidden v r x e (set v a s) s (set-agrees v a s);
   chooses = λ x e s a. facts .chooses-hidden v r x e (set v a s) s (set-agrees v a s);
-  acts = λ x e s a. within-set v a (facts .acts-hidden v r x e (set v a s) s (set-agrees v a s)) (λ s′ u h. facts .writes-hidden v w x e (set v a s) s′ u h ∙ set-here v a s);
+  acts = λ x n e s a. within-set v a (facts .acts-hidden v r x e (set v a s) s (set-agrees v a s)) (λ s′ u h. facts .writes-hidden v w x n e (set v a s) s′ u h ∙ set-here v a s);
+  binds = λ x e s a. facts .acts-hidden v r x e (set v a s) s (set-agrees v a s);
 }

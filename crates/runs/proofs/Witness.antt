@@ -1,28 +1,22 @@
 -- The hypotheses of demand 3 can be met: a file, the fold made in it, and a meaning with steps that write and that stop, of
 -- which all facts are true. The fold brings a call into `o.x = v`, while another call of the same kind, label and flags does
--- change what `o.x` gives. Assumes nothing.
+-- change what `o.x` gives. Direct evals and kind 6 statements write every name, and read v or not; the file has none
+-- (HiddenSteps: files that do). Assumes nothing.
 use Prim.Native.Nat.{ℕ, _+_}
-use mathlib.Core.Bool.{Bool, true, false, cond, _&&_, _||_, false≢true}
+use mathlib.Core.Bool.{Bool, true, false, cond, _&&_, _||_, and-false, false≢true}
 use mathlib.Core.List.{List, [], _∷_}
 use mathlib.Core.Path.{_≡_, refl, sym, ap, subst, _∙_}
 use lib.Dec.{eqb}
 use borrow.Author.Tests.{eqb-false, ne-eqb}
-use Rattle.records.specs.Bytes.{u16At, u32At}
 use Rattle.records.specs.Limits.{noNumber}
-use Rattle.records.specs.Records.{recordsFrom, bytesOf, everyFrom}
-use Rattle.records.specs.Record.{headerOf, headerBytes, nameAt, nameBytes, scopeAt, scopeBytes, frameAt, frameBytes, nodeAt, nodeBytes, declaratorAt, declaratorBytes, statementAt, statementBytes}
-use Rattle.records.specs.Header.{notAScript, otherVersion, outsideLimits, otherLength}
-use Rattle.records.specs.Facts.{goodName, goodScope, goodFrame, badFacts}
-use Rattle.records.specs.Script.{flagsOf, goodDeclaratorOf, goodDeclarator, goodStatement, declaratorSum, badScript, declares, declaredTwice}
-use Rattle.records.specs.Node.{fewest, most, goodChildren, goodFlags, mayMark, goodNodeOf, goodNode, badNodes}
-use Rattle.records.specs.Tree.{Tree, Trees, node, none, more, count, size, firsts, others, recordOf, preorder, nodeOf, grown, rowOf, closed}
-use Rattle.records.specs.Place.{isExpression, mayStand, loose, mayBeLoose, standUnder, placed, rootsStand, expressions, badTrees}
-use Rattle.records.specs.Count.{targetName, firstTarget, nameRead, usesIn, goodCounts, badCounts}
-use Rattle.records.specs.Refusal.{roomWanted, refusal}
-use Rattle.records.specs.File.{namesOf, scopesOf, framesOf, nodesOf, declaratorsOf, statementsOf, Const, given, Statement, declaration, expression, File, firstTree, initializers, isGiven, declaratorRecords, kindNumber, declaratorsIn, statementNumber, statementRecord, statementRecords, allDeclarators, initializerTree, initializerTrees, statementTrees, allTrees, headerFor, print}
+use Rattle.records.specs.Script.{flagsOf}
+use Rattle.records.specs.Tree.{Tree, Trees, node, none, more, count}
+use Rattle.records.specs.Count.{targetName as targetOf, firstTarget, nameRead}
+use Rattle.records.specs.Refusal.{refusal}
+use Rattle.records.specs.File.{Const, given, Statement, declaration, expression, File, kindNumber, declaratorsIn, allDeclarators, initializerTree, initializerTrees, statementTrees, allTrees, print}
 use Rattle.records.specs.declared.layout.NameFacts.{NameFacts}
 use Rattle.runs.specs.Store.{Store, set}
-use Rattle.runs.specs.Hand.{static, member, Given, only, firstOr, lastOr}
+use Rattle.runs.specs.Hand.{static, Beside, nothing, bareEval, targetName, opaqueTarget, member, Given, only, firstOr, lastOr}
 use Rattle.runs.specs.Step.{Role, value, target, Origin, ofNode, ofDeclarator, ofOther, Step}
 use Rattle.runs.specs.Meaning.{Act, done, stops, Meaning}
 use Rattle.runs.specs.Form.{cleared, isMarked, isMember, isDelete, form, order, childless, isName, isChain, isPlain, isAssignment, choiceOf, firstRole, originOf}
@@ -30,11 +24,16 @@ use Rattle.runs.specs.State.{State, Out, gave, cut, stop, bind}
 use Rattle.runs.specs.Run.{takes, then, isRead, kept, listed, acted, caught, gathered, chosen, inTurn, stepped, queued, held, goesOn, own, beside, finished, runNode, run}
 use Rattle.runs.specs.Script.{sets, binds, declaresBare, declaresWith, runDeclarator, runDeclarators, gives, runStatement, runStatements, Ran, whole, ran, begin, runFile}
 use Rattle.runs.specs.Shapes.{someIn, declaredIn, shapeP, firstDeclared, shapeQ, evalWhole, someEval, shapeR, shapeS}
+use Rattle.runs.specs.InHand.{isNothing, hasKey, offers, mayGive, mayKeep, valuesOf, inHand}
+use Rattle.runs.specs.Makes.{isMarkedStep, some, makesOwn, asks, someTurn, roleNumber, sameOrigin, makesHere, makesIn, makesMarked, makesDeclarator, makesStatement, makes, makesAct}
 use Rattle.walk.specs.Context.{contextOf, factsOf}
 use Rattle.walk.specs.Unsettled.{scopeOf, climb, readCrossesFunctionBoundary}
 use Rattle.runs.specs.Demand.{folded, both-ended, SameRun}
-use Rattle.runs.specs.Facts.{isTargetOf, aims, throughBy, through, AgreeBut, ActsAlike, both-done, both-stop, FoldKeeps, Facts}
+use Rattle.runs.specs.Facts.{isTargetOf, aims, throughBy, through, isOfNode, AgreeBut, ActsAlike, both-done, both-stop, FoldKeeps, Facts}
+use Rattle.statements.specs.Declarators.{isUsing}
 use Rattle.statements.specs.Trace.{Fold}
+use Rattle.statements.specs.Fold.{foldFile}
+use Rattle.statements.proofs.Computed.{computed}
 
 -- The file: `const v = f(); o.x = v; g();`. Names: 0 v, 1 f, 2 g, 3 o.
 abbrev nd : ℕ → ℕ → ℕ → Trees → Tree
@@ -43,7 +42,7 @@ nd kind flags label kids = node (record { kind = kind; flags = flags; label = la
 abbrev name : ℕ → Tree
 name a = nd 4 0 a none
 
-abbrev call : ℕ → Tree
+abbrev pub call : ℕ → Tree
 call a = nd 14 1 0 (more (name a) none)
 
 abbrev property : Tree
@@ -52,31 +51,33 @@ property = nd 10 0 7 (more (name 3) none)
 abbrev assigned : Tree → Tree
 assigned t = nd 20 0 0 (more property (more t none))
 
-abbrev facts : List NameFacts
+abbrev pub facts : List NameFacts
 facts =
     record { flags = 17; scope = 0; reads = 1; writes = 0 } ∷ record { flags = 1; scope = 0; reads = 0; writes = 0 }
     ∷ record { flags = 1; scope = 0; reads = 0; writes = 0 } ∷ record { flags = 1; scope = 0; reads = 0; writes = 0 } ∷ []
 
-abbrev fileOf : List Statement → File
-fileOf ss = record { options = 0; currentScope = 0; thisScope = noNumber; names = facts; scopes = record { parent = noNumber; flags = 0 } ∷ []; frames = []; statements = ss }
+abbrev pub fileOf : List NameFacts → List Statement → File
+fileOf names ss = record { options = 0; currentScope = 0; thisScope = noNumber; names = names; scopes = record { parent = noNumber; flags = 0 } ∷ []; frames = []; statements = ss }
 
-abbrev script : File
-script =
-    fileOf
-    (declaration Const (record { name = 0; initializer = given (call 1) } ∷ [])
+abbrev pub statements : List Statement
+statements =
+    declaration Const (record { name = 0; initializer = given (call 1) } ∷ [])
     ∷ expression (assigned (name 0))
     ∷ expression (call 2)
-    ∷ [])
+    ∷ []
+
+abbrev script : File
+script = fileOf facts statements
 
 -- `o.x = f(); g();`, and the fold that was made
 abbrev result : File
-result = fileOf (expression (assigned (call 1)) ∷ expression (call 2) ∷ [])
+result = fileOf facts (expression (assigned (call 1)) ∷ expression (call 2) ∷ [])
 
-abbrev trace : List Fold
+abbrev pub trace : List Fold
 trace = record { name = 0; initializer = call 1; into = assigned (name 0); before = declaration Const [] ∷ [] } ∷ []
 
 -- The rest of the store: what `o.x` holds, and a count.
-abbrev Bench : Type 0
+abbrev pub Bench : Type 0
 Bench = ℕ × ℕ
 
 -- the value of a callee
@@ -96,30 +97,47 @@ changes (ofNode kind label flags role) hs r =
 changes (ofDeclarator k a) hs r = (r .0, r .1 + 1)
 changes ofOther hs r = (r .0, r .1 + 1)
 
--- A call of the value 13 stops; so does every kind 6 statement.
+-- A call of the value 13 stops.
 unfoldable pub halts : Origin → List (Given ℕ) → Bool
 halts (ofNode kind label flags role) hs = eqb kind 14 && eqb (callee hs) 13
 halts (ofDeclarator k a) hs = false
-halts ofOther hs = true
+halts ofOther hs = false
 
 -- A step that is made through a name writes the last value in hand to it.
 unfoldable pub writes : Step ℕ → (ℕ → ℕ) → ℕ → ℕ
 writes x names a = cond (through a x) (lastOr 0 (x .hand)) (names a)
 
+-- A direct eval, which has bare `eval` in hand, and a kind 6 statement run code that the file doesn't show. Their steps set
+-- every name to 0, and give what v holds if they read it.
+unfoldable pub isDirect : Beside ℕ → Bool
+isDirect nothing = false
+isDirect bareEval = true
+isDirect (targetName a) = false
+isDirect (opaqueTarget l) = false
+isDirect (member o k) = false
+
+unfoldable pub unshown : Origin → List (Given ℕ) → Bool
+unshown (ofNode kind label flags role) hs = isDirect (firstOr 0 hs .beside)
+unshown (ofDeclarator k a) hs = false
+unshown ofOther hs = true
+
+unfoldable pub resets : Bool → Store ℕ Bench → Act ℕ Bench
+resets read s = done (cond read (s .names 0) 0) (record { names = λ a. 0; rest = s .rest })
+
 unfoldable pub acts : Bool → Step ℕ → Store ℕ Bench → Act ℕ Bench
 acts true x s = stops
 acts false x s = done (s .rest .1) (record { names = writes x (s .names); rest = changes (x .origin) (x .hand) (s .rest) })
 
-unfoldable pub bench : Meaning ℕ Bench
-bench = record {
+unfoldable pub bench : Bool → Meaning ℕ Bench
+bench read = record {
   undefined = 0;
   constant = λ x. lastOr 0 (x .hand);
   reads = λ x s. looks (x .origin) (s .rest);
   chooses = λ x s. eqb (s .rest .1) 0;
-  acts = λ x s. acts (halts (x .origin) (x .hand)) x s;
+  acts = λ x s. cond (unshown (x .origin) (x .hand)) (resets read s) (acts (halts (x .origin) (x .hand)) x s);
 }
 
-abbrev start : Store ℕ Bench
+abbrev pub start : Store ℕ Bench
 start = record { names = λ a. 10 + a; rest = (40, 0) }
 
 -- the state that a part of a run leaves, and the value that it gave
@@ -140,12 +158,12 @@ storeOf stops u = u
 
 -- what a run comes to, computed
 unfoldable runs : Tree → Role → State ℕ Bench → Out ℕ Bench (Given ℕ)
-unfolding cleared isMarked isMember isDelete form order childless isName isChain isPlain isAssignment choiceOf firstRole originOf bind takes then isRead kept listed acted caught gathered chosen inTurn stepped queued held goesOn own beside finished runNode run firstOr lastOr set flagsOf callee looks changes halts isTargetOf aims throughBy writes acts bench
-runs t role s = run facts bench t role s
+unfolding cleared isMarked isMember isDelete form order childless isName isChain isPlain isAssignment choiceOf firstRole originOf bind takes then isRead kept listed acted caught gathered chosen inTurn stepped queued held goesOn own beside finished runNode run firstOr lastOr set flagsOf callee looks changes halts isTargetOf aims throughBy writes isDirect unshown resets acts bench
+runs t role s = run facts (bench true) t role s
 
 unfoldable ran-of : File → Ran ℕ Bench
 unfolding runs sets binds declaresBare declaresWith runDeclarator runDeclarators gives runStatement runStatements whole ran begin runFile
-ran-of f = runFile bench f start
+ran-of f = runFile (bench true) f start
 
 -- a choice between two values, of which the test says that it is the second
 second : (b : Bool) (w u : ℕ) → b ≡ false → cond b w u ≡ u
@@ -156,15 +174,30 @@ either : (b : Bool) (w u u′ : ℕ) → u ≡ u′ → cond b w u ≡ cond b w 
 either true w u u′ e = refl
 either false w u u′ e = e
 
+-- what a file makes, computed
+unfoldable pub made : File → Step ℕ → Bool
+unfolding cleared isMarked isMember isDelete form order childless isChain isPlain isAssignment choiceOf firstRole originOf kept takes then isRead flagsOf isNothing hasKey offers mayGive mayKeep valuesOf inHand isMarkedStep some makesOwn asks someTurn roleNumber sameOrigin isUsing makesHere makesIn makesMarked makesDeclarator makesStatement makes
+made f x = makesAct f x
+
+-- Before and after the folded call `o.x` holds 40.
+kept-here : (read : Bool) → FoldKeeps facts (bench read) start (record { name = 0; initializer = call 1; into = assigned (name 0); before = declaration Const [] ∷ [] })
+unfolding runs stateOf valueOf runDeclarators runStatement runStatements begin
+kept-here read s s′ x before through-it =
+    let here : begin start ≡ s = ap stateOf before in
+    let there : _≡_ {A = ℕ} 40 (s′ .store .rest .0) = ap (λ o. stateOf o .store .rest .0) (subst (λ u. run facts (bench read) (call 1) value u ≡ gave x s′) (sym here) through-it) in
+    let same : s .store .rest .0 ≡ s′ .store .rest .0 = ap (λ u. u .store .rest .0) (sym here) ∙ there in
+    ((λ p q r y y′ u u′ e e′. ap valueOf (sym e) ∙ same ∙ ap valueOf e′), (((λ p q r. absurd (false≢true p)), ((tt, tt), tt)), ((tt, tt), tt)))
+
 -- Stores that differ at one name alone, and a step through nothing of it.
 alike-by : (b : Bool) (a : ℕ) (x : Step ℕ) (s s′ : Store ℕ Bench) → AgreeBut a s s′ → ActsAlike a (acts b x s) (acts b x (record { names = s′ .names; rest = s .rest }))
 unfolding acts writes
 alike-by true a x s s′ h = both-stop
 alike-by false a x s s′ h = both-done (record { names = λ n e. either (through n x) _ _ _ (h .names n e); rest = refl })
 
-alike : (a : ℕ) (x : Step ℕ) (s s′ : Store ℕ Bench) → AgreeBut a s s′ → ActsAlike a (bench .acts x s) (bench .acts x s′)
-unfolding bench
-alike a x s s′ h =
+alike : (read u : Bool) (a : ℕ) (x : Step ℕ) (s s′ : Store ℕ Bench) → (u ≡ true → read ≡ false) → AgreeBut a s s′
+    → ActsAlike a (cond u (resets read s) (acts (halts (x .origin) (x .hand)) x s)) (cond u (resets read s′) (acts (halts (x .origin) (x .hand)) x s′))
+alike read true a x s s′ k h = rw (k refl) (unfold resets in both-done (record { names = λ n e. refl; rest = h .rest }))
+alike read false a x s s′ k h =
     subst (λ r. ActsAlike a (acts (halts (x .origin) (x .hand)) x s) (acts (halts (x .origin) (x .hand)) x (record { names = s′ .names; rest = r }))) (h .rest)
     (alike-by (halts (x .origin) (x .hand)) a x s s′ h)
 
@@ -174,41 +207,75 @@ unfolding acts storeOf writes
 unwritten-by true a x s e = refl
 unwritten-by false a x s e = second (through a x) _ _ e
 
-unwritten : (a : ℕ) (x : Step ℕ) → through a x ≡ false → (s s′ : Store ℕ Bench) (w : ℕ) → bench .acts x s ≡ done w s′ → s′ .names a ≡ s .names a
-unfolding bench storeOf
-unwritten a x e s s′ w h = ap (λ act. storeOf act s .names a) (sym h) ∙ unwritten-by (halts (x .origin) (x .hand)) a x s e
+-- The facts are true for statements that make no direct eval, and no kind 6 statement's step that reads v.
+module _ (ss : List Statement) (bareless : (o : Origin) (w : ℕ) (hs : List (Given ℕ)) → makesAct (fileOf facts ss) (record { origin = o; hand = record { value = w; beside = bareEval } ∷ hs }) ≡ false) where
+  abbrev f : File
+  f = fileOf facts ss
 
--- Before and after the folded call `o.x` holds 40.
-kept-here : FoldKeeps facts bench start (record { name = 0; initializer = call 1; into = assigned (name 0); before = declaration Const [] ∷ [] })
-unfolding runs stateOf valueOf runDeclarators runStatement runStatements begin
-kept-here s s′ x before through-it =
-    let here : begin start ≡ s = ap stateOf before in
-    let there : _≡_ {A = ℕ} 40 (s′ .store .rest .0) = ap (λ o. stateOf o .store .rest .0) (subst (λ u. run facts bench (call 1) value u ≡ gave x s′) (sym here) through-it) in
-    let same : s .store .rest .0 ≡ s′ .store .rest .0 = ap (λ u. u .store .rest .0) (sym here) ∙ there in
-    ((λ p q r y y′ u u′ e e′. ap valueOf (sym e) ∙ same ∙ ap valueOf e′), (((λ p q r. absurd (false≢true p)), ((tt, tt), tt)), ((tt, tt), tt)))
+  no-direct : (o : Origin) (w : ℕ) (b : Beside ℕ) (hs : List (Given ℕ)) → makesAct f (record { origin = o; hand = record { value = w; beside = b } ∷ hs }) ≡ true → isDirect b ≡ false
+  unfolding isDirect
+  no-direct o w nothing hs e = refl
+  no-direct o w bareEval hs e = sym e ∙ bareless o w hs
+  no-direct o w (targetName a) hs e = refl
+  no-direct o w (opaqueTarget l) hs e = refl
+  no-direct o w (member v k) hs e = refl
 
-pub met : Facts script trace bench start
-unfolding bench looks
-met = record {
-  reads-hidden = λ a h x e s s′ g. ap (looks (x .origin)) (g .rest);
-  chooses-hidden = λ a h x e s s′ g. ap (λ r. eqb (r .1) 0) (g .rest);
-  acts-hidden = λ a h x e s s′ g. alike a x s s′ g;
-  writes-hidden = λ a h x e s s′ w g. unwritten a x e s s′ w g;
-  settled-kept = λ a h x n e s s′ w g. unwritten a x e s s′ w g;
-  this-kept = λ h x n s s′ w g label flags. refl;
-  targets-kept = (kept-here, tt);
-}
+  shown : (o : Origin) (hs : List (Given ℕ)) → makesAct f (record { origin = o; hand = hs }) ≡ true → isOfNode o ≡ true → unshown o hs ≡ false
+  unfolding unshown isDirect firstOr isOfNode
+  shown (ofNode kind label flags role) [] e n = refl
+  shown (ofNode kind label flags role) (h ∷ hs) e n = no-direct (ofNode kind label flags role) (h .value) (h .beside) hs e
+  shown (ofDeclarator k a) hs e n = refl
+  shown ofOther hs e n = sym n
 
--- The file is accepted, and has none of the four shapes.
+  unread : (read : Bool) → (read ≡ true → (hs : List (Given ℕ)) → makesAct f (record { origin = ofOther; hand = hs }) ≡ false)
+      → (o : Origin) (hs : List (Given ℕ)) → makesAct f (record { origin = o; hand = hs }) ≡ true → unshown o hs ≡ true → read ≡ false
+  unread false h o hs e u = refl
+  unread true h (ofNode kind label flags role) hs e u = sym u ∙ shown (ofNode kind label flags role) hs e (unfold isOfNode in refl)
+  unread true h (ofDeclarator k a) hs e u = unfold unshown in sym u
+  unread true h ofOther hs e u = sym e ∙ h refl hs
+
+  unwritten : (read : Bool) (a : ℕ) (x : Step ℕ) → makesAct f x ≡ true → isOfNode (x .origin) ≡ true → through a x ≡ false → (s s′ : Store ℕ Bench) (w : ℕ) → bench read .acts x s ≡ done w s′ → s′ .names a ≡ s .names a
+  unfolding bench storeOf
+  unwritten read a x k n e s s′ w h = ap (λ act. storeOf act s .names a) (sym (rw (shown (x .origin) (x .hand) k n) at h)) ∙ unwritten-by (halts (x .origin) (x .hand)) a x s e
+
+  pub true-of : (read : Bool) → (read ≡ true → (hs : List (Given ℕ)) → makesAct f (record { origin = ofOther; hand = hs }) ≡ false) → Facts f trace (bench read) start
+  unfolding bench looks
+  true-of read unmade = record {
+    reads-hidden = λ a h x k e s s′ g. ap (looks (x .origin)) (g .rest);
+    chooses-hidden = λ a h x k e s s′ g. ap (λ r. eqb (r .1) 0) (g .rest);
+    acts-hidden = λ a h x k e s s′ g. alike read (unshown (x .origin) (x .hand)) a x s s′ (unread read unmade (x .origin) (x .hand) k) g;
+    writes-hidden = λ a h x k n e s s′ w g. unwritten read a x k n e s s′ w g;
+    settled-kept = λ a h x k n e s s′ w g. unwritten read a x k n e s s′ w g;
+    this-kept = λ h x k n s s′ w g label flags i. refl;
+    targets-kept = (kept-here read, tt);
+  }
+
+-- The file makes no direct eval and no kind 6 statement's step.
+no-bare : (o : Origin) (w : ℕ) (hs : List (Given ℕ)) → makesAct script (record { origin = o; hand = record { value = w; beside = bareEval } ∷ hs }) ≡ false
+unfolding made
+no-bare o w hs = refl
+
+no-other : (hs : List (Given ℕ)) → makesAct script (record { origin = ofOther; hand = hs }) ≡ false
+unfolding made
+no-other hs = simp and-false
+
+pub met : Facts script trace (bench true) start
+met = true-of statements no-bare true (λ e. no-other)
+
+-- The file is accepted, this is its fold, and it has none of the four shapes.
 pub accepted : refusal (print script) 1000 ≡ 0
-unfolding u16At u32At recordsFrom bytesOf everyFrom headerOf headerBytes nameAt nameBytes scopeAt scopeBytes frameAt frameBytes nodeAt nodeBytes declaratorAt declaratorBytes statementAt statementBytes notAScript otherVersion outsideLimits otherLength goodName goodScope goodFrame badFacts flagsOf goodDeclaratorOf goodDeclarator goodStatement declaratorSum badScript declares declaredTwice fewest most goodChildren goodFlags mayMark goodNodeOf goodNode badNodes count size firsts others recordOf preorder nodeOf grown rowOf closed isExpression mayStand loose mayBeLoose standUnder placed rootsStand expressions badTrees targetName firstTarget nameRead usesIn goodCounts badCounts roomWanted refusal namesOf scopesOf framesOf nodesOf declaratorsOf statementsOf firstTree initializers isGiven declaratorRecords kindNumber declaratorsIn statementNumber statementRecord statementRecords allDeclarators initializerTree initializerTrees statementTrees allTrees headerFor print
+unfolding computed
 accepted = refl
 
+folds-so : (foldFile script .file ≡ result) × (foldFile script .trace ≡ trace)
+unfolding computed
+folds-so = (refl, refl)
+
 pub shapeless : (shapeP script ≡ false) × (shapeQ script ≡ false) × (shapeR script ≡ false) × (shapeS script ≡ false)
-unfolding someIn declaredIn shapeP firstDeclared shapeQ evalWhole someEval shapeR shapeS contextOf factsOf scopeOf climb readCrossesFunctionBoundary nameRead targetName firstTarget flagsOf count declaratorsIn allDeclarators initializerTree initializerTrees statementTrees allTrees
+unfolding someIn declaredIn shapeP firstDeclared shapeQ evalWhole someEval shapeR shapeS contextOf factsOf scopeOf climb readCrossesFunctionBoundary nameRead targetOf firstTarget flagsOf count declaratorsIn allDeclarators initializerTree initializerTrees statementTrees allTrees
 shapeless = (refl, refl, refl, refl)
 
--- A step through no name, and with this in hand.
+-- a node's step through no name, with this in hand
 abbrev did : ℕ → ℕ → List (Given ℕ) → Step ℕ
 did kind flags hs = record { origin = ofNode kind 0 flags value; hand = hs }
 
@@ -216,11 +283,11 @@ did kind flags hs = record { origin = ofNode kind 0 flags value; hand = hs }
 abbrev steps-made : List (Step ℕ)
 steps-made = did 14 1 (only 11 ∷ []) ∷ did 20 0 (record { value = 40; beside = member 13 (static 7) } ∷ only 0 ∷ []) ∷ did 14 1 (only 12 ∷ []) ∷ []
 
-script-steps : runFile bench script start .steps ≡ steps-made
+script-steps : runFile (bench true) script start .steps ≡ steps-made
 unfolding ran-of
 script-steps = refl
 
-result-steps : runFile bench result start .steps ≡ steps-made
+result-steps : runFile (bench true) result start .steps ≡ steps-made
 unfolding ran-of
 result-steps = refl
 
@@ -234,11 +301,11 @@ not-v a e = ne-eqb a 0 (λ z. eqb-false 0 a (two (eqb 0 a) e) (sym z))
     two false h = refl
 
 -- The two runs are the same.
-pub same : SameRun script result (runFile bench script start) (runFile bench result start)
+pub same : SameRun script result (runFile (bench true) script start) (runFile (bench true) result start)
 unfolding ran-of
 same = record { steps = refl; values = refl; end = both-ended (λ a e. second (eqb a 0) _ _ (not-v a e)) refl }
 
 -- The call of `g`, of the same kind, label and flags as that of `f`, changes what `o.x` gives.
-changed-by-g : (valueOf (run facts bench property target (begin start)) ≡ 40) × (valueOf (run facts bench property target (stateOf (run facts bench (call 2) value (begin start)))) ≡ 90)
+changed-by-g : (valueOf (run facts (bench true) property target (begin start)) ≡ 40) × (valueOf (run facts (bench true) property target (stateOf (run facts (bench true) (call 2) value (begin start)))) ≡ 90)
 unfolding runs stateOf valueOf begin
 changed-by-g = (refl, refl)

@@ -21,6 +21,7 @@ use Rattle.runs.specs.Run.{run}
 use Rattle.runs.specs.Script.{runStatements, begin}
 use Rattle.runs.specs.Settled.{factsOf, settled, thisBlocks}
 use Rattle.runs.specs.Shapes.{declared, someNode}
+use Rattle.runs.specs.Makes.{makesRead, makesChoice, makesAct}
 use Rattle.statements.specs.Trace.{Fold}
 
 -- "a recorded name whose stated reads all stand in the file"
@@ -58,7 +59,7 @@ throughBy a ofOther hs = false
 abbrev pub through : {Value : Type 0} → ℕ → Step Value → Bool
 through a x = throughBy a (x .origin) (x .hand)
 
--- a node's step; those of declarators and of kind 6 statements "may also bind names"
+-- A node's step. Those of declarators and of kind 6 statements "may also bind names": what they set, nothing is said of.
 unfoldable pub isOfNode : Origin → Bool
 isOfNode (ofNode kind label flags role) = true
 isOfNode (ofDeclarator k name) = false
@@ -74,7 +75,7 @@ pub data ActsAlike {Value Rest : Type 0} (a : ℕ) : Act Value Rest → Act Valu
   both-done : {w : Value} {s s′ : Store Value Rest} → AgreeBut a s s′ → ActsAlike a (done w s) (done w s′)
   both-stop : ActsAlike a stops stops
 
--- so it is of each
+-- true of each
 abbrev pub Each : {A : Type 0} → (A → Type 0) → List A → Type 0
 Each P [] = Unit {0}
 Each P (x ∷ xs) = P x × Each P xs
@@ -113,26 +114,31 @@ module _ {Value Rest : Type 0} (names : List NameFacts) (m : Meaning Value Rest)
       → run names m (φ .initializer) value s ≡ gave x s′
       → TargetsSame (φ .into) (φ .name) s s′
 
--- The facts of a file are true of a meaning; the last one for the folds made in it, on the run from a starting store.
+-- what `this` gives, of a node with this label and these flags
+abbrev pub thisStep : {Value : Type 0} → ℕ → ℕ → Step Value
+thisStep label flags = record { origin = ofNode 5 label flags value; hand = [] }
+
+-- The facts of a file are true of a meaning. They are asked of the steps and choices that the file can make, and of no others;
+-- the last one of the folds made in it, on the run from a starting store.
 pub record Facts {Value Rest : Type 0} (f : File) (trace : List Fold) (m : Meaning Value Rest) (start : Store Value Rest) : Type 0 where
   -- "no hidden part reads a recorded name whose stated reads all stand in the file": on stores that differ at this name
-  -- alone, every step and choice but those through it does the same
-  pub reads-hidden : (a : ℕ) → readsStand f a ≡ true → (x : Step Value) → through a x ≡ false
+  -- alone, every step and choice of the file does the same, but those through it
+  pub reads-hidden : (a : ℕ) → readsStand f a ≡ true → (x : Step Value) → makesRead f x ≡ true → through a x ≡ false
       → (s s′ : Store Value Rest) → AgreeBut a s s′ → m .reads x s ≡ m .reads x s′
-  pub chooses-hidden : (a : ℕ) → readsStand f a ≡ true → (x : Step Value) → through a x ≡ false
+  pub chooses-hidden : (a : ℕ) → readsStand f a ≡ true → (x : Step Value) → makesChoice f x ≡ true → through a x ≡ false
       → (s s′ : Store Value Rest) → AgreeBut a s s′ → m .chooses x s ≡ m .chooses x s′
-  pub acts-hidden : (a : ℕ) → readsStand f a ≡ true → (x : Step Value) → through a x ≡ false
+  pub acts-hidden : (a : ℕ) → readsStand f a ≡ true → (x : Step Value) → makesAct f x ≡ true → through a x ≡ false
       → (s s′ : Store Value Rest) → AgreeBut a s s′ → ActsAlike a (m .acts x s) (m .acts x s′)
   -- "or writes a declared one whose stated writes all do"
-  pub writes-hidden : (a : ℕ) → writesStand f a ≡ true → (x : Step Value) → through a x ≡ false
-      → (s s′ : Store Value Rest) (w : Value) → m .acts x s ≡ done w s′ → s′ .names a ≡ s .names a
+  pub writes-hidden : (a : ℕ) → writesStand f a ≡ true → (x : Step Value) → makesAct f x ≡ true → isOfNode (x .origin) ≡ true
+      → through a x ≡ false → (s s′ : Store Value Rest) (w : Value) → m .acts x s ≡ done w s′ → s′ .names a ≡ s .names a
   -- "settled names keep their value"
-  pub settled-kept : (a : ℕ) → settled f a ≡ true → (x : Step Value) → isOfNode (x .origin) ≡ true → through a x ≡ false
-      → (s s′ : Store Value Rest) (w : Value) → m .acts x s ≡ done w s′ → s′ .names a ≡ s .names a
+  pub settled-kept : (a : ℕ) → settled f a ≡ true → (x : Step Value) → makesAct f x ≡ true → isOfNode (x .origin) ≡ true
+      → through a x ≡ false → (s s′ : Store Value Rest) (w : Value) → m .acts x s ≡ done w s′ → s′ .names a ≡ s .names a
   -- "and so does `this` if the position of any node in the file leaves it unblocked"
-  pub this-kept : thisUnblocked f ≡ true → (x : Step Value) → isOfNode (x .origin) ≡ true
+  pub this-kept : thisUnblocked f ≡ true → (x : Step Value) → makesAct f x ≡ true → isOfNode (x .origin) ≡ true
       → (s s′ : Store Value Rest) (w : Value) → m .acts x s ≡ done w s′ → (label flags : ℕ)
-      → m .reads (record { origin = ofNode 5 label flags value; hand = [] }) s′ ≡ m .reads (record { origin = ofNode 5 label flags value; hand = [] }) s
+      → makesRead f (thisStep {Value = Value} label flags) ≡ true → m .reads (thisStep label flags) s′ ≡ m .reads (thisStep label flags) s
   -- "and no marked step that folding brings into a plain assignment's value changes what that assignment's unmarked target
   -- gave"
   pub targets-kept : Each (FoldKeeps (f .names) m start) trace

@@ -10,5 +10,7 @@ pub mod Run
 pub mod Script
 pub mod Settled
 pub mod Shapes
+pub mod InHand
+pub mod Makes
 pub mod Facts
 pub mod Demand

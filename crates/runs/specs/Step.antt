@@ -10,7 +10,7 @@ pub data Role : Type 0 where
   value target deleted : Role
 
 -- "Two steps are the same if they come from nodes of one kind, label and flags, from declarators of one statement kind and
--- name, or from kind 6 statements." A node's numbers stand in this order: kind, label, flags.
+-- name, or from kind 6 statements." A node's numbers stand in this order: kind, label, flags; then what it is evaluated for.
 pub data Origin : Type 0 where
   ofNode : ℕ → ℕ → ℕ → Role → Origin
   ofDeclarator : DeclarationKind → ℕ → Origin

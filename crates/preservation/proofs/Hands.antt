@@ -1,0 +1,216 @@
+-- What is in hand at a node of a run is what the file lets it have in hand.
+use Prim.Native.Nat.{ℕ}
+use mathlib.Core.Bool.{Bool, true, false, cond, _&&_, _||_, not}
+use mathlib.Core.List.{List, [], _∷_}
+use mathlib.Core.Path.{_≡_, refl}
+use lib.Dec.{eqb}
+use borrow.Author.Tests.{eq-eqb}
+use Rattle.records.specs.Flags.{isEval}
+use Rattle.records.specs.Script.{flagsOf}
+use Rattle.records.specs.Tree.{Node, Tree, Trees, node, none, more}
+use Rattle.records.specs.declared.layout.NameFacts.{NameFacts}
+use Rattle.records.proofs.Tests.{clash}
+use Rattle.runs.specs.Hand.{static, private, computed, Beside, nothing, bareEval, targetName as aTarget, opaqueTarget, member, Given, Hand, only, firstOr, lastOr}
+use Rattle.runs.specs.Step.{Role, value}
+use Rattle.runs.specs.Meaning.{Meaning}
+use Rattle.runs.specs.Form.{is, cleared, isDelete, Choice, never, logical, conditional, optionally, Form, form, childless, isName, isChain, isAssignment, choiceOf, firstRole}
+use Rattle.runs.specs.State.{State, Out, gave}
+use Rattle.runs.specs.Run.{Turn, all, skipped, second, third, takes, then, kept, caught, gathered, chosen, inTurn, goesOn, own, beside, finished, runNode, run, runChildren, runOthers}
+use Rattle.runs.specs.InHand.{isNothing, hasKey, offers, mayGive, mayKeep, valuesOf, inHand}
+use Rattle.runs.specs.Makes.{Asked, choice, step, someTurn}
+use Rattle.preservation.proofs.Tests.{by-or, or-left, or-right}
+use Rattle.preservation.proofs.Bare.{name-kind, chain-kind}
+use Rattle.preservation.proofs.Ends.{Ends, gives, cuts, halts, ends-bind, ends-any, ends-map, First}
+use Rattle.preservation.proofs.Same.{hand-of}
+
+or-not : (b : Bool) → (b || not b && true) ≡ true
+or-not true = refl
+or-not false = refl
+
+same-label : (n : Node) → eqb (n .label) (n .label) ≡ true
+same-label n = eq-eqb (n .label) (n .label) refl
+
+-- a test of turns that holds of more of them, and of all
+pub turn-on : (d : Asked) (c : Choice) (test test′ : Turn → Bool) → ((w : Turn) → test w ≡ true → test′ w ≡ true) → someTurn d c test ≡ true → someTurn d c test′ ≡ true
+unfolding someTurn
+turn-on choice c test test′ h e = h skipped e
+turn-on (step k) never test test′ h e = h all e
+turn-on (step k) logical test test′ h e = by-or (test all) (test skipped) (λ q. or-left _ _ (h all q)) (λ q. or-right (test′ all) _ (h skipped q)) e
+turn-on (step k) conditional test test′ h e = by-or (test second) (test third) (λ q. or-left _ _ (h second q)) (λ q. or-right (test′ second) _ (h third q)) e
+turn-on (step k) optionally test test′ h e = h all e
+
+turn-any : (d : Asked) (c : Choice) (test : Turn → Bool) → ((w : Turn) → test w ≡ true) → someTurn d c test ≡ true
+unfolding someTurn
+turn-any choice c test h = h skipped
+turn-any (step k) never test h = h all
+turn-any (step k) logical test h = or-left _ _ (h all)
+turn-any (step k) conditional test h = or-left _ _ (h second)
+turn-any (step k) optionally test h = h all
+
+module _ (Value : Type 0) (names : List NameFacts) where
+  abbrev B : Type 0
+  B = Beside Value
+
+  -- What a node keeps of what its first child gives, it may keep.
+  keeps-by : (k : Bool) (n : Node) (t : Tree) (ts : Trees) (b : B) → (k ≡ true → kept (form n) n b ≡ b) → mayGive names t b ≡ true → mayKeep names n (more t ts) (cond k b nothing) ≡ true
+  unfolding mayGive isNothing
+  keeps-by true n t ts b h g = rw (h refl, g) (or-not (isNothing b))
+  keeps-by false n t ts b h g = refl
+
+  keeps : (n : Node) (t : Tree) (ts : Trees) (b : B) → mayGive names t b ≡ true → mayKeep names n (more t ts) (kept (form n) n b) ≡ true
+  unfolding kept
+  keeps n t ts nothing g = keeps-by false n t ts nothing (λ e. refl) g
+  keeps n t ts bareEval g = keeps-by (is 14 n) n t ts bareEval (λ e. rw e) g
+  keeps n t ts (aTarget a) g = keeps-by (isAssignment (form n)) n t ts (aTarget a) (λ e. rw e) g
+  keeps n t ts (opaqueTarget l) g = keeps-by (isAssignment (form n)) n t ts (opaqueTarget l) (λ e. rw e) g
+  keeps n t ts (member o k) g = keeps-by (is 14 n || is 24 n || isDelete n || isAssignment (form n) || isChain (form n)) n t ts (member o k) (λ e. rw e) g
+
+  -- What a node gives beside its value, it may give.
+  abbrev Gives : Node → Trees → B → Type 0
+  Gives n ts b = mayGive names (node n ts) b ≡ true
+
+  gives-own : (n : Node) (ts : Trees) (b : B) → offers names n b ≡ true → Gives n ts b
+  unfolding mayGive
+  gives-own n ts b e = or-left (offers names n b) _ e
+
+  offers-eval : (n : Node) (t : Bool) → is 4 n ≡ true → isEval (flagsOf names (n .label)) ≡ t → offers {Value = Value} names n (cond t bareEval nothing) ≡ true
+  unfolding offers
+  offers-eval n true e g = rw (e, g)
+  offers-eval n false e g = refl
+
+  gives-first : (n : Node) (ts : Trees) (w : Value) (hs : Hand Value) → is 13 n ≡ true → First (λ b. mayKeep names (cleared n) ts b ≡ true) hs → Gives n ts (firstOr w hs .beside)
+  unfolding mayGive offers firstOr
+  gives-first n ts w [] e h = refl
+  gives-first n ts w (x ∷ hs) e h = or-right (offers names n (x .beside)) _ (rw (e, h))
+
+  gives-cond : (n : Node) (ts : Trees) (t : Bool) (b c : B) → (t ≡ true → Gives n ts b) → Gives n ts c → Gives n ts (cond t b c)
+  gives-cond n ts true b c h g = h refl
+  gives-cond n ts false b c h g = g
+
+  module _ {Rest : Type 0} (m : Meaning Value Rest) where
+    gives-beside : (n : Node) (ts : Trees) (hs : Hand Value) → First (λ b. mayKeep names (cleared n) ts b ≡ true) hs → Gives n ts (beside names m (form (cleared n)) (cleared n) hs)
+    unfolding beside cleared offers hasKey
+    gives-beside n ts hs h =
+        gives-cond n ts (isName (form (cleared n))) _ _ (λ e. gives-own n ts _ (offers-eval n (isEval (flagsOf names (n .label))) (name-kind n e) refl))
+        (gives-cond n ts (is 29 n) _ _ (λ e. gives-own n ts (aTarget (n .label)) (rw (e, same-label n)))
+        (gives-cond n ts (is 30 n) _ _ (λ e. gives-own n ts (opaqueTarget (n .label)) (rw (e, same-label n)))
+        (gives-cond n ts (is 10 n) _ _ (λ e. gives-own n ts (member (firstOr (m .undefined) hs .value) (static (n .label))) (rw (e, same-label n)))
+        (gives-cond n ts (is 11 n) _ _ (λ e. gives-own n ts (member (firstOr (m .undefined) hs .value) (private (n .label))) (rw (e, same-label n)))
+        (gives-cond n ts (is 12 n) _ _ (λ e. gives-own n ts (member (firstOr (m .undefined) hs .value) (computed (lastOr (m .undefined) hs))) e)
+        (gives-cond n ts (isChain (form (cleared n))) _ _ (λ e. gives-first n ts (m .undefined) hs (chain-kind n e) h) (gives-own n ts nothing refl)))))))
+
+    -- how parts come out: a tree; children behind the first; the children of a node
+    abbrev pub Given-fits : Tree → Out Value Rest (Given Value) → Type 0
+    Given-fits t o = Ends (λ x s. mayGive names t (x .beside) ≡ true) (λ s. Unit {0}) (Unit {0}) o
+
+    abbrev Keeps : Node → Trees → Hand Value → Type 0
+    Keeps n ts hs = First (λ b. mayKeep names n ts b ≡ true) hs
+
+    abbrev Stands : Node → Trees → Hand Value → Type 0
+    Stands n ts hs = isChain (form n) ≡ false → (marked : Bool) → someTurn (step marked) (choiceOf (form n)) (λ w. inHand names n w ts hs) ≡ true
+
+    abbrev pub Hand-fits : Node → Trees → Out Value Rest (Hand Value) → Type 0
+    Hand-fits n ts o = Ends (λ hs s. Keeps n ts hs × Stands n ts hs) (λ s. Unit {0}) (Unit {0}) o
+
+    abbrev Any : {A : Type 0} → Out Value Rest A → Type 0
+    Any o = Ends (λ x s. Unit {0}) (λ s. Unit {0}) (Unit {0}) o
+
+    any : {A : Type 0} (o : Out Value Rest A) → Any o
+    any o = ends-any o (λ x s. tt) (λ s. tt)
+
+    abbrev Values : Turn → Trees → Out Value Rest (Hand Value) → Type 0
+    Values w ts o = Ends (λ hs s. valuesOf w ts hs ≡ true) (λ s. Unit {0}) (Unit {0}) o
+
+    -- children behind the first
+    values-skip : (w : Turn) (t : Tree) (ts : Trees) (hs : Hand Value) → takes w ≡ false → valuesOf (then w) ts hs ≡ true → valuesOf w (more t ts) hs ≡ true
+    unfolding valuesOf
+    values-skip w t ts [] e h = rw (e, h)
+    values-skip w t ts (x ∷ hs) e h = rw (e, h)
+
+    values-take : (w : Turn) (t : Tree) (ts : Trees) (u : Value) (hs : Hand Value) → takes w ≡ true → valuesOf (then w) ts hs ≡ true → valuesOf w (more t ts) (only u ∷ hs) ≡ true
+    unfolding valuesOf isNothing
+    values-take w t ts u hs e h = rw (e, h)
+
+    turn-fits : (b : Bool) (w : Turn) (t : Tree) (ts : Trees) (child : State Value Rest → Out Value Rest (Given Value)) (others : State Value Rest → Out Value Rest (Hand Value)) (s : State Value Rest) → takes w ≡ b → ((s : State Value Rest) → Values (then w) ts (others s)) → Values w (more t ts) (cond b (inTurn child others s) (others s))
+    unfolding inTurn
+    turn-fits true w t ts child others s e h = ends-bind (any (child s)) (λ x s′ u. ends-bind (h s′) (λ hs s″ g. gives (values-take w t ts (x .value) hs e g)))
+    turn-fits false w t ts child others s e h = ends-map (h s) (λ hs s′ g. values-skip w t ts hs e g) (λ s′ u. tt) (λ u. tt)
+
+    no-trees : (w : Turn) → valuesOf {Value = Value} w none [] ≡ true
+    unfolding valuesOf
+    no-trees w = refl
+
+    others-fit : (ts : Trees) (w : Turn) (s : State Value Rest) → Values w ts (runOthers names m ts w s)
+    unfolding run
+    others-fit none w s = gives (no-trees w)
+    others-fit (more t ts) w s = turn-fits (takes w) w t ts (λ s′. run names m t value s′) (λ s′. runOthers names m ts (then w) s′) s refl (λ s′. others-fit ts (then w) s′)
+
+    -- as they are chosen
+    abbrev Chosen : Choice → Trees → Out Value Rest (Hand Value) → Type 0
+    Chosen c ts o = Ends (λ hs s. (marked : Bool) → someTurn (step marked) c (λ w. valuesOf w ts hs) ≡ true) (λ s. Unit {0}) (Unit {0}) o
+
+    chosen-fit : (ts : Trees) (c : Choice) (b : Bool) (others : Turn → State Value Rest → Out Value Rest (Hand Value)) (s : State Value Rest) → ((w : Turn) → Values w ts (others w s)) → Chosen c ts (chosen c b others s)
+    unfolding chosen someTurn
+    chosen-fit ts never b others s h = ends-map (h all) (λ hs s′ e k. e) (λ s′ u. tt) (λ u. tt)
+    chosen-fit ts logical true others s h = ends-map (h all) (λ hs s′ e k. or-left _ _ e) (λ s′ u. tt) (λ u. tt)
+    chosen-fit ts logical false others s h = ends-map (h skipped) (λ hs s′ e k. or-right (valuesOf all ts hs) _ e) (λ s′ u. tt) (λ u. tt)
+    chosen-fit ts conditional true others s h = ends-map (h second) (λ hs s′ e k. or-left _ _ e) (λ s′ u. tt) (λ u. tt)
+    chosen-fit ts conditional false others s h = ends-map (h third) (λ hs s′ e k. or-right (valuesOf second ts hs) _ e) (λ s′ u. tt) (λ u. tt)
+    chosen-fit ts optionally true others s h = ends-map (h all) (λ hs s′ e k. e) (λ s′ u. tt) (λ u. tt)
+    chosen-fit ts optionally false others s h = cuts tt
+
+    -- with what the first child gave
+    keeps-first : (n : Node) (w : Turn) (t : Tree) (ts : Trees) (x : Given Value) (hs : Hand Value) → mayGive names t (x .beside) ≡ true → valuesOf w ts hs ≡ true → inHand names n w (more t ts) (hand-of (form n) n x ∷ hs) ≡ true
+    unfolding inHand
+    keeps-first n w t ts x hs e h = rw (keeps n t ts (x .beside) e, h)
+
+    none-skipped : (ts : Trees) → valuesOf {Value = Value} skipped ts [] ≡ true
+    unfolding valuesOf takes then
+    none-skipped none = refl
+    none-skipped (more t ts) = none-skipped ts
+
+    pub choice-fits : (n : Node) (t : Tree) (ts : Trees) (x : Given Value) → mayGive names t (x .beside) ≡ true → someTurn choice (choiceOf (form n)) (λ w. inHand names n w (more t ts) (hand-of (form n) n x ∷ [])) ≡ true
+    unfolding someTurn
+    choice-fits n t ts x e = keeps-first n skipped t ts x [] e (none-skipped ts)
+
+    goesOn-fits : (n : Node) (t : Tree) (ts : Trees) (role : Role) (others : Turn → State Value Rest → Out Value Rest (Hand Value)) (x : Given Value) (s : State Value Rest) → mayGive names t (x .beside) ≡ true → ((w : Turn) → Values w ts (others w s)) → Hand-fits n (more t ts) (goesOn m (form n) n role others x s)
+    unfolding goesOn
+    goesOn-fits n t ts role others x s e h =
+        ends-bind (chosen-fit ts (choiceOf (form n)) _ others s h) (λ hs s′ g.
+        gives (keeps n t ts (x .beside) e, λ q k. turn-on (step k) (choiceOf (form n)) (λ w. valuesOf w ts hs) (λ w. inHand names n w (more t ts) (hand-of (form n) n x ∷ hs)) (λ w z. keeps-first n w t ts x hs e z) (g k)))
+
+    -- no child has run
+    none-hand : (n : Node) (w : Turn) (ts : Trees) → childless (form n) ≡ true → inHand {Value = Value} names n w ts [] ≡ true
+    unfolding inHand
+    none-hand n w none e = refl
+    none-hand n w (more t ts) e = e
+
+    gathered-by : (b c : Bool) (n : Node) (ts : Trees) (o : Out Value Rest (Hand Value)) (s : State Value Rest) → childless (form n) ≡ b → isChain (form n) ≡ c → Hand-fits n ts o → Hand-fits n ts (cond b (gave [] s) (cond c (caught o) o))
+    unfolding caught
+    gathered-by true c n ts o s e g h = gives (tt, λ q k. turn-any (step k) (choiceOf (form n)) (λ w. inHand names n w ts []) (λ w. none-hand n w ts e))
+    gathered-by false true n ts o s e g (gives h) = gives h
+    gathered-by false true n ts o s e g (cuts h) = gives (tt, λ q. clash (isChain (form n)) q g)
+    gathered-by false true n ts o s e g (halts h) = halts tt
+    gathered-by false false n ts o s e g h = h
+
+    pub gathered-fits : (n : Node) (ts : Trees) (o : Out Value Rest (Hand Value)) (s : State Value Rest) → Hand-fits n ts o → Hand-fits n ts (gathered (form n) o s)
+    unfolding gathered
+    gathered-fits n ts o s h = gathered-by (childless (form n)) (isChain (form n)) n ts o s refl refl h
+
+    finished-fits : (n : Node) (ts : Trees) (role : Role) (hs : Hand Value) (s : State Value Rest) → Keeps (cleared n) ts hs → Given-fits (node n ts) (finished names m (form (cleared n)) (cleared n) role hs s)
+    unfolding finished
+    finished-fits n ts role hs s h = ends-bind (any (own names m (form (cleared n)) (cleared n) role _ s)) (λ w s′ u. gives (gives-beside n ts hs h))
+
+    no-children : (n : Node) (w : Turn) → inHand {Value = Value} names n w none [] ≡ true
+    unfolding inHand
+    no-children n w = refl
+
+    mutual
+      unfolding run runNode
+
+      pub given-fits : (t : Tree) (role : Role) (s : State Value Rest) → Given-fits t (run names m t role s)
+      given-fits (node n ts) role s = ends-bind (gathered-fits (cleared n) ts _ s (hand-fits ts (cleared n) role s)) (λ hs s′ h. finished-fits n ts role hs s′ (h .0))
+
+      pub hand-fits : (ts : Trees) (n : Node) (role : Role) (s : State Value Rest) → Hand-fits n ts (runChildren names m ts (form n) n role s)
+      hand-fits none n role s = gives (tt, λ q k. turn-any (step k) (choiceOf (form n)) (λ w. inHand names n w none []) (λ w. no-children n w))
+      hand-fits (more t ts) n role s = ends-bind (given-fits t (firstRole (form n) n role) s) (λ x s′ e. goesOn-fits n t ts role _ x s′ e (λ w. others-fit ts w s′))

@@ -1,0 +1,87 @@
+-- What can be made doesn't go by positions: a tree whose root was given another makes the steps and choices that it made.
+use Prim.Native.Nat.{ℕ}
+use mathlib.Core.Bool.{Bool, true, false, _&&_, _||_, not}
+use mathlib.Core.List.{List, [], _∷_}
+use mathlib.Core.Path.{_≡_, refl, ap, ap₂, _∙_, fun-ext}
+use Rattle.records.specs.Tree.{Node, Tree, Trees, node, none, more}
+use Rattle.records.specs.declared.layout.NameFacts.{NameFacts}
+use Rattle.walk.specs.Substitute.{at}
+use Rattle.runs.specs.Hand.{static, private, computed, Beside, nothing, bareEval, targetName as aTarget, opaqueTarget, member, Hand}
+use Rattle.runs.specs.Step.{Role, Step}
+use Rattle.runs.specs.Form.{is, cleared, isMarked, isMember, Form, constant, name, targetName, leaf, chain, property, importing, sequence, assignment, stepping, form, childless, choiceOf, originOf}
+use Rattle.runs.specs.Run.{Turn, kept}
+use Rattle.runs.specs.InHand.{isNothing, hasKey, offers, mayGive, mayKeep, valuesOf, inHand}
+use Rattle.runs.specs.Makes.{Asked, choice, step, makesOwn, asks, someTurn, sameOrigin, makesHere, makesIn, makesInRow}
+use Rattle.preservation.proofs.At.{placedAt, kept-at, role-at}
+
+form-at : (p : ℕ) (n : Node) → form (placedAt p n) ≡ form n
+unfolding form placedAt
+form-at p n = refl
+
+origin-at : (p : ℕ) (n : Node) (role : Role) → originOf (placedAt p n) role ≡ originOf n role
+unfolding originOf isMember placedAt
+origin-at p n role = refl
+
+-- what a node gives beside its value goes by its kind and label
+pub offers-same : {Value : Type 0} (names : List NameFacts) (n k : Node) (b : Beside Value) → n .kind ≡ k .kind → n .label ≡ k .label → offers names n b ≡ offers names k b
+unfolding offers hasKey
+offers-same names n k nothing e g = refl
+offers-same names n k bareEval e g = rw (e, g)
+offers-same names n k (aTarget a) e g = rw (e, g)
+offers-same names n k (opaqueTarget l) e g = rw (e, g)
+offers-same names n k (member o (static l)) e g = rw (e, g)
+offers-same names n k (member o (private l)) e g = rw (e, g)
+offers-same names n k (member o (computed w)) e g = rw e
+
+module _ {Value : Type 0} (names : List NameFacts) (p : ℕ) where
+  keep-at : (n : Node) (ts : Trees) (b : Beside Value) → mayKeep names (placedAt p n) ts b ≡ mayKeep names n ts b
+  unfolding mayGive
+  keep-at n none b = refl
+  keep-at n (more t ts) b = ap (λ k. isNothing b || not (isNothing k) && mayGive names t b) (ap (λ f. kept f (placedAt p n) b) (form-at p n) ∙ kept-at p (form n) n b)
+
+  give-node : (n : Node) (ts : Trees) (b : Beside Value) → mayGive names (node (placedAt p n) ts) b ≡ mayGive names (node n ts) b
+  unfolding mayGive placedAt cleared
+  give-node n ts b = ap₂ (λ x y. x || is 13 n && y) (offers-same names (placedAt p n) n b refl refl) (keep-at (cleared n) ts b)
+
+  pub give-at : (t : Tree) (b : Beside Value) → mayGive names (at p t) b ≡ mayGive names t b
+  unfolding at placedAt
+  give-at (node n ts) b = give-node n ts b
+
+  hand-at : (n : Node) (w : Turn) (ts : Trees) (hs : Hand Value) → inHand names (placedAt p n) w ts hs ≡ inHand names n w ts hs
+  unfolding inHand
+  hand-at n w none [] = refl
+  hand-at n w none (h ∷ hs) = refl
+  hand-at n w (more t ts) [] = ap childless (form-at p n)
+  hand-at n w (more t ts) (h ∷ hs) = ap (λ b. b && valuesOf w ts hs) (keep-at n (more t ts) (h .beside))
+
+  turn-at : (d : Asked) (n : Node) (ts : Trees) (hs : Hand Value) → someTurn d (choiceOf (form (placedAt p n))) (λ w. inHand names (placedAt p n) w ts hs) ≡ someTurn d (choiceOf (form n)) (λ w. inHand names n w ts hs)
+  turn-at d n ts hs = ap₂ (λ f test. someTurn d (choiceOf f) test) (form-at p n) (fun-ext (λ w. hand-at n w ts hs))
+
+asks-at : (p : ℕ) (names : List NameFacts) (d : Asked) (f : Form) (n : Node) (role : Role) → asks d names f (placedAt p n) role ≡ asks d names f n role
+unfolding asks makesOwn placedAt isMarked
+asks-at p names choice f n role = refl
+asks-at p names (step b) constant n role = refl
+asks-at p names (step b) name n role = refl
+asks-at p names (step b) targetName n role = refl
+asks-at p names (step b) leaf n role = refl
+asks-at p names (step b) chain n role = refl
+asks-at p names (step b) property n role = refl
+asks-at p names (step b) importing n role = refl
+asks-at p names (step b) sequence n role = refl
+asks-at p names (step b) (assignment c) n role = refl
+asks-at p names (step b) (stepping c) n role = refl
+
+module _ {Value : Type 0} (names : List NameFacts) (p : ℕ) (d : Asked) (x : Step Value) where
+  here-at : (n : Node) (role : Role) (ts : Trees) → makesHere names d x (placedAt p n) role ts ≡ makesHere names d x n role ts
+  unfolding makesHere
+  here-at n role ts =
+      ap₂ (λ a b. a && b && sameOrigin (originOf (placedAt p n) role) (x .origin)) (turn-at names p d n ts (x .hand)) (ap (λ f. asks d names f (placedAt p n) role) (form-at p n) ∙ asks-at p names d (form n) n role)
+      ∙ ap (λ o. someTurn d (choiceOf (form n)) (λ w. inHand names n w ts (x .hand)) && asks d names (form n) n role && sameOrigin o (x .origin)) (origin-at p n role)
+
+  node-at : (n : Node) (ts : Trees) (role : Role) → makesIn names d x (node (placedAt p n) ts) role ≡ makesIn names d x (node n ts) role
+  unfolding makesIn form placedAt cleared
+  node-at n ts role = ap₂ (λ a ρ. a || makesInRow names d x ts ρ) (here-at (cleared n) role ts) (role-at p (form (cleared n)) (cleared n) role)
+
+  pub makes-at : (t : Tree) (role : Role) → makesIn names d x (at p t) role ≡ makesIn names d x t role
+  unfolding at placedAt
+  makes-at (node n ts) role = node-at n ts role

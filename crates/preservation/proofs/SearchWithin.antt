@@ -1,0 +1,340 @@
+-- What a search leaves makes no step and no choice that the tree and the initializer don't make.
+use Prim.Native.Nat.{ℕ}
+use mathlib.Core.Bool.{Bool, true, false, cond, _&&_, _||_, not}
+use mathlib.Core.List.{List, [], _∷_}
+use mathlib.Core.Path.{_≡_, refl, sym, ap, _∙_, subst}
+use Rattle.records.specs.Flags.{isEval}
+use Rattle.records.specs.Script.{flagsOf}
+use Rattle.records.specs.Tree.{Node, Tree, Trees, node, none, more}
+use Rattle.records.specs.Place.{root, isExpression, standUnder, placed, allPlaced}
+use Rattle.records.specs.File.{given, File}
+use Rattle.records.specs.declared.layout.NameFacts.{NameFacts}
+use Rattle.records.proofs.Tests.{clash, both}
+use Rattle.walk.specs.Context.{Context}
+use Rattle.walk.specs.Shape.{shape, isMemberExpression, cleared as walked}
+use Rattle.walk.specs.Substitute.{Answer, replaced, stopped, passed, Plan, all, first, nothing as none-at-all, value as behind, test, branches, tag, next, at, preserveIndirectAccess, asTag, inOrder, inBranches, byPlan, ofNode, isSpecificId, isMemberTag, plan, mayPass, substituteInExpression, substituteInChildren}
+use Rattle.runs.specs.Hand.{Beside, nothing, bareEval, targetName as aTarget, opaqueTarget, member, Hand}
+use Rattle.runs.specs.Step.{Role, value, Step}
+use Rattle.runs.specs.Form.{is, cleared, form, isChain, choiceOf, firstRole, originOf}
+use Rattle.runs.specs.Run.{Turn, takes, then, kept}
+use Rattle.runs.specs.Shapes.{evalWhole}
+use Rattle.runs.specs.InHand.{isNothing, offers, mayGive, mayKeep, valuesOf, inHand}
+use Rattle.runs.specs.Makes.{Asked, choice, step, isChoice, makesOwn, asks, someTurn, sameOrigin, makesHere, makesIn, makesInRow, makes}
+use Rattle.preservation.proofs.Tests.{and-on, by-or, or-left, or-right}
+use Rattle.preservation.proofs.Tables.{walked-cleared, cleared-once, form-shape, shape-kinds}
+use Rattle.preservation.proofs.Kept.{under, in-row}
+use Rattle.preservation.proofs.Bare.{expression-not}
+use Rattle.preservation.proofs.Entering.{Entering, Enters, kept-value, value-of-all, plan-enters}
+use Rattle.preservation.proofs.MakesAt.{offers-same, give-at, makes-at}
+use Rattle.preservation.proofs.Gives.{has-key, gives-eval, gives-target, gives-opaque, gives-member}
+use Rattle.preservation.proofs.Hands.{turn-on}
+use Rattle.preservation.proofs.Within.{Within, WithinRow, node-children, row-first, row-others, row-join}
+
+same-cleared : (n : Node) → cleared (walked n) ≡ cleared n
+same-cleared n = ap cleared (walked-cleared n) ∙ cleared-once n
+
+-- a child that is the name is evaluated for its value
+value-first : (v : ℕ) (r : Tree) (n : Node) (t : Tree) → Entering v r (form n) n t → isSpecificId v (root t) ≡ true → (role : Role) → firstRole (form n) n role ≡ value
+value-first v r n t e g role = value-of-all (form n) n (e .unassigned) (e .undeleted) (and-on (isChain (form n)) (isSpecificId v (root t)) g (e .unchained)) role
+
+module _ (Value : Type 0) (f : File) (v : ℕ) (r : Tree) where
+  abbrev names : List NameFacts
+  names = f .names
+
+  -- what is asked of an initializer that is placed
+  pub record Placeable : Type 0 where
+    pub steps : Within Value f value r
+    pub expression : isExpression (root r .kind) ≡ true
+    pub standing : placed r ≡ true
+    pub plain : evalWhole names (given r) ≡ false
+
+  -- A tree and what a search leaves of it.
+  record Follows (t t′ : Tree) : Type 0 where
+    gives : (b : Beside Value) → mayGive names t′ b ≡ true → (mayGive names t b || isSpecificId v (root t) && mayGive names r b) ≡ true
+    within : (role : Role) → (isSpecificId v (root t) ≡ true → role ≡ value) → Within Value f role t → Within Value f role t′
+
+  -- a row of children behind the first
+  record FollowsRow (ts ts′ : Trees) : Type 0 where
+    values : (w : Turn) (hs : Hand Value) → valuesOf w ts′ hs ≡ true → valuesOf w ts hs ≡ true
+    within : WithinRow Value f value ts → WithinRow Value f value ts′
+
+  -- the children of a node
+  record FollowsChildren (n : Node) (ts ts′ : Trees) : Type 0 where
+    keep : (b : Beside Value) → mayKeep names n ts′ b ≡ true → mayKeep names n ts b ≡ true
+    hand : (w : Turn) (hs : Hand Value) → inHand names n w ts′ hs ≡ true → inHand names n w ts hs ≡ true
+    within : (role : Role) → WithinRow Value f (firstRole (form n) n role) ts → WithinRow Value f (firstRole (form n) n role) ts′
+
+  -- so it is of an answer; a tree at which the search stopped isn't the name
+  abbrev Follow : Tree → Answer Tree → Type 0
+  Follow t (replaced t′) = Placeable → Follows t t′
+  Follow t (stopped t′) = (isSpecificId v (root t) ≡ false) × Follows t t′
+  Follow t passed = Unit {0}
+
+  abbrev Answered : (Trees → Trees → Type 0) → Trees → Answer Trees → Type 0
+  Answered R ts (replaced ts′) = Placeable → R ts ts′
+  Answered R ts (stopped ts′) = R ts ts′
+  Answered R ts passed = Unit {0}
+
+  in-order : (R : Trees → Trees → Type 0) (t : Tree) (ts : Trees)
+      → ((t′ : Tree) → Placeable → Follows t t′ → R (more t ts) (more t′ ts))
+      → ((t′ : Tree) → isSpecificId v (root t) ≡ false → Follows t t′ → R (more t ts) (more t′ ts))
+      → ((ts′ : Trees) → FollowsRow ts ts′ → R (more t ts) (more t ts′))
+      → (a : Answer Tree) (b : Answer Trees) → Follow t a → Answered FollowsRow ts b → Answered R (more t ts) (inOrder t ts a b)
+  unfolding inOrder
+  in-order R t ts h g k (replaced t′) b x y = λ p. h t′ p (x p)
+  in-order R t ts h g k (stopped t′) b x y = g t′ (x .0) (x .1)
+  in-order R t ts h g k passed (replaced ts′) x y = λ p. k ts′ (y p)
+  in-order R t ts h g k passed (stopped ts′) x y = k ts′ y
+  in-order R t ts h g k passed passed x y = tt
+
+  -- Children behind the first.
+  values-both : (t t′ : Tree) (ts ts′ : Trees) → ((w : Turn) (hs : Hand Value) → valuesOf w ts′ hs ≡ true → valuesOf w ts hs ≡ true) → (w : Turn) (hs : Hand Value) → valuesOf w (more t′ ts′) hs ≡ true → valuesOf w (more t ts) hs ≡ true
+  unfolding valuesOf
+  values-both t t′ ts ts′ h w [] e = let (a, b) = both (not (takes w)) (valuesOf (then w) ts′ []) e in rw (a, h (then w) [] b)
+  values-both t t′ ts ts′ h w (x ∷ hs) e = by (takes w) e
+    where
+      by : (c : Bool) → cond c (isNothing (x .beside) && valuesOf (then w) ts′ hs) (valuesOf (then w) ts′ (x ∷ hs)) ≡ true → cond c (isNothing (x .beside) && valuesOf (then w) ts hs) (valuesOf (then w) ts (x ∷ hs)) ≡ true
+      by true e = let (a, b) = both (isNothing (x .beside)) (valuesOf (then w) ts′ hs) e in rw (a, h (then w) hs b)
+      by false e = h (then w) (x ∷ hs) e
+
+  row-both : (t t′ : Tree) (ts ts′ : Trees) → Follows t t′ → FollowsRow ts ts′ → FollowsRow (more t ts) (more t′ ts′)
+  row-both t t′ ts ts′ h g = record {
+    values = values-both t t′ ts ts′ (g .values);
+    within = λ w. row-join Value f t′ ts′ value (h .within value (λ e. refl) (row-first Value f t ts value w)) (g .within (row-others Value f t ts value w));
+  }
+
+  tree-same : (t : Tree) → Follows t t
+  tree-same t = record { gives = λ b e. or-left (mayGive names t b) _ e; within = λ role g h. h }
+
+  row-same : (ts : Trees) → FollowsRow ts ts
+  row-same ts = record { values = λ w hs e. e; within = λ h. h }
+
+  row-order : (t : Tree) (ts : Trees) (a : Answer Tree) (b : Answer Trees) → Follow t a → Answered FollowsRow ts b → Answered FollowsRow (more t ts) (inOrder t ts a b)
+  row-order t ts a b x y =
+      in-order FollowsRow t ts (λ t′ p h. row-both t t′ ts ts h (row-same ts)) (λ t′ e h. row-both t t′ ts ts h (row-same ts)) (λ ts′ h. row-both t t ts ts′ (tree-same t) h) a b x y
+
+  row-branches : (t : Tree) (ts : Trees) (a : Answer Tree) (b : Answer Trees) → Follow t a → Answered FollowsRow ts b → Answered FollowsRow (more t ts) (inBranches t ts a b)
+  unfolding inBranches
+  row-branches t ts (replaced t′) b x y = λ p. row-both t t′ ts ts (x p) (row-same ts)
+  row-branches t ts (stopped t′) (replaced ts′) x y = λ p. row-both t t′ ts ts′ (x .1) (y p)
+  row-branches t ts (stopped t′) (stopped ts′) x y = row-both t t′ ts ts′ (x .1) y
+  row-branches t ts (stopped t′) passed x y = row-both t t′ ts ts (x .1) (row-same ts)
+  row-branches t ts passed b x y = row-order t ts passed b x y
+
+  row-plan : (p : Plan) (t : Tree) (ts : Trees) (a : Answer Tree) (b : Answer Trees) → Follow t a → Answered FollowsRow ts b → Answered FollowsRow (more t ts) (byPlan (next p) t ts a b)
+  unfolding next byPlan
+  row-plan all t ts a b x y = row-order t ts a b x y
+  row-plan first t ts a b x y = tt
+  row-plan none-at-all t ts a b x y = tt
+  row-plan behind t ts a b x y = row-order t ts a b x y
+  row-plan test t ts a b x y = row-branches t ts a b x y
+  row-plan branches t ts a b x y = row-order t ts a b x y
+  row-plan tag t ts a b x y = row-order t ts a b x y
+
+  -- The first child of a node, where this keeps no more of what takes its place than of the child.
+  abbrev Keeps-no-more : Node → Tree → Type 0
+  Keeps-no-more n t = (b : Beside Value) → isSpecificId v (root t) ≡ true → mayGive names r b ≡ true → not (isNothing (kept (form n) n b)) ≡ true → isNothing b ≡ true
+
+  child-keep : (n : Node) (t t′ : Tree) (ts us : Trees) → Keeps-no-more n t → Follows t t′ → (b : Beside Value) → mayKeep names n (more t′ us) b ≡ true → mayKeep names n (more t ts) b ≡ true
+  unfolding mayGive
+  child-keep n t t′ ts us k h b e =
+      by-or (isNothing b) (not (isNothing (kept (form n) n b)) && mayGive names t′ b) (λ q. or-left (isNothing b) _ q)
+      (λ q. let (x, y) = both (not (isNothing (kept (form n) n b))) (mayGive names t′ b) q in
+      by-or (mayGive names t b) (isSpecificId v (root t) && mayGive names r b) (λ z. or-right (isNothing b) _ (rw (x, z)))
+      (λ z. let (g, i) = both (isSpecificId v (root t)) (mayGive names r b) z in or-left (isNothing b) _ (k b g i x)) (h .gives b y)) e
+
+  hand-both : (n : Node) (t t′ : Tree) (ts ts′ : Trees) → ((b : Beside Value) → mayKeep names n (more t′ ts′) b ≡ true → mayKeep names n (more t ts) b ≡ true) → ((w : Turn) (hs : Hand Value) → valuesOf w ts′ hs ≡ true → valuesOf w ts hs ≡ true)
+      → (w : Turn) (hs : Hand Value) → inHand names n w (more t′ ts′) hs ≡ true → inHand names n w (more t ts) hs ≡ true
+  unfolding inHand
+  hand-both n t t′ ts ts′ k h w [] e = e
+  hand-both n t t′ ts ts′ k h w (x ∷ hs) e = let (a, b) = both (mayKeep names n (more t′ ts′) (x .beside)) (valuesOf w ts′ hs) e in rw (k (x .beside) a, h w hs b)
+
+  child-first : (n : Node) (t t′ : Tree) (ts : Trees) → Keeps-no-more n t → (isSpecificId v (root t) ≡ true → (role : Role) → firstRole (form n) n role ≡ value) → Follows t t′ → FollowsChildren n (more t ts) (more t′ ts)
+  child-first n t t′ ts k g h = record {
+    keep = λ b e. child-keep n t t′ ts ts k h b e;
+    hand = hand-both n t t′ ts ts (λ b q. child-keep n t t′ ts ts k h b q) (λ w hs q. q);
+    within = λ role w. row-join Value f t′ ts (firstRole (form n) n role) (h .within (firstRole (form n) n role) (λ e. g e role) (row-first Value f t ts (firstRole (form n) n role) w)) (row-others Value f t ts (firstRole (form n) n role) w);
+  }
+
+  child-rest : (n : Node) (t : Tree) (ts ts′ : Trees) → FollowsRow ts ts′ → FollowsChildren n (more t ts) (more t ts′)
+  unfolding mayGive
+  child-rest n t ts ts′ h = record {
+    keep = λ b e. e;
+    hand = hand-both n t t ts ts′ (λ b q. q) (h .values);
+    within = λ role w. row-join Value f t ts′ (firstRole (form n) n role) (row-first Value f t ts (firstRole (form n) n role) w) (h .within (row-others Value f t ts (firstRole (form n) n role) w));
+  }
+
+  -- what r gives beside its value is a member, and that isn't kept
+  keeps-value : (n : Node) (t : Tree) → Placeable → Entering v r (form n) n t → Keeps-no-more n t
+  unfolding isNothing evalWhole
+  keeps-value n t p e nothing g h q = refl
+  keeps-value n t p e bareEval g h q = clash (is 4 (root r) && isEval (flagsOf names (root r .label))) (p .plain) (gives-eval Value names r h)
+  keeps-value n t p e (aTarget a) g h q = clash (is 29 (root r)) (expression-not (root r .kind) 29 (p .expression) refl refl) (gives-target Value names r a h)
+  keeps-value n t p e (opaqueTarget l) g h q = clash (is 30 (root r)) (expression-not (root r .kind) 30 (p .expression) refl refl) (gives-opaque Value names r l h)
+  keeps-value n t p e (member o k) g h q = clash false refl (rw (kept-value v r (form n) n t e g (gives-member Value names r o k (p .standing) h) (member o k)) at q)
+
+  first-order : (n : Node) (t : Tree) (ts : Trees) (a : Answer Tree) (b : Answer Trees) → Entering v r (form n) n t → Follow t a → Answered FollowsRow ts b → Answered (FollowsChildren n) (more t ts) (inOrder t ts a b)
+  first-order n t ts a b e x y =
+      in-order (FollowsChildren n) t ts (λ t′ p h. child-first n t t′ ts (keeps-value n t p e) (λ g. value-first v r n t e g) h)
+      (λ t′ s h. child-first n t t′ ts (λ b g. clash (isSpecificId v (root t)) s g) (λ g. clash (isSpecificId v (root t)) s g) h) (λ ts′ h. child-rest n t ts ts′ h) a b x y
+
+  rest-order : (n : Node) (t : Tree) (ts : Trees) (b : Answer Trees) → Answered FollowsRow ts b → Answered (FollowsChildren n) (more t ts) (inOrder t ts passed b)
+  unfolding inOrder
+  rest-order n t ts (replaced ts′) y = λ p. child-rest n t ts ts′ (y p)
+  rest-order n t ts (stopped ts′) y = child-rest n t ts ts′ y
+  rest-order n t ts passed y = tt
+
+  -- A tag in whose place the initializer stays indirect.
+  still-here : (d : Asked) (x : Step Value) (n : Node) (role : Role) (ts : Trees) → asks d names (form n) n role ≡ false → makesHere names d x n role ts ≡ false
+  unfolding makesHere
+  still-here d x n role ts e = rw e (and-none (someTurn d (choiceOf (form n)) (λ w. inHand names n w ts (x .hand))))
+    where
+      and-none : (b : Bool) → (b && false && sameOrigin (originOf n role) (x .origin)) ≡ false
+      and-none true = refl
+      and-none false = refl
+
+  abbrev one : ℕ → Node
+  one p = record { kind = 1; flags = 0; label = 65535; position = p }
+
+  abbrev pair : ℕ → Node
+  pair p = record { kind = 28; flags = 0; label = 0; position = p }
+
+  quiet : (d : Asked) (p : ℕ) (role : Role) → (asks d names (form (cleared (one p))) (cleared (one p)) role ≡ false) × (asks d names (form (cleared (pair p))) (cleared (pair p)) role ≡ false)
+  unfolding asks makesOwn isChoice choiceOf form cleared
+  quiet choice p role = (refl, refl)
+  quiet (step b) p role = (refl, refl)
+
+  aside-row : (d : Asked) (x : Step Value) (p : ℕ) (t : Tree) (role : Role) → makesInRow names d x (more (node (one p) none) (more t none)) role ≡ (makesIn names d x t value || false)
+  unfolding makesIn
+  aside-row d x p t role = rw (still-here d x (cleared (one p)) role none (quiet d p role .0))
+
+  or-none : (b : Bool) → (b || false) ≡ true → b ≡ true
+  or-none true e = refl
+  or-none false e = e
+
+  aside-within : (t : Tree) (role : Role) → Within Value f value t → Within Value f role (preserveIndirectAccess t)
+  unfolding preserveIndirectAccess
+  aside-within (node n ts) role h d x e = h d x (or-none (makesIn names d x (node n ts) value) (sym (aside-by role) ∙ e))
+    where
+      aside-by : (role : Role) → makesIn names d x (node (pair (n .position)) (more (node (one (n .position)) none) (more (node n ts) none))) role ≡ (makesIn names d x (node n ts) value || false)
+      aside-by role = unfold makesIn in (rw (still-here d x (cleared (pair (n .position))) role (more (node (one (n .position)) none) (more (node n ts) none)) (quiet d (n .position) role .1)) (aside-row d x (n .position) (node n ts) _))
+
+  aside-gives : (t : Tree) (b : Beside Value) → mayGive names (preserveIndirectAccess t) b ≡ true → isNothing b ≡ true
+  unfolding preserveIndirectAccess mayGive offers isNothing
+  aside-gives (node n ts) nothing e = refl
+  aside-gives (node n ts) bareEval e = clash false refl e
+  aside-gives (node n ts) (aTarget a) e = clash false refl e
+  aside-gives (node n ts) (opaqueTarget l) e = clash false refl e
+  aside-gives (node n ts) (member o k) e = clash false refl (has-key (pair (n .position)) k (or-none _ e))
+
+  aside-keep : (n : Node) (t t′ : Tree) (ts us : Trees) (b : Beside Value) → mayKeep names n (more (preserveIndirectAccess t′) us) b ≡ true → mayKeep names n (more t ts) b ≡ true
+  unfolding mayGive
+  aside-keep n t t′ ts us b e =
+      or-left (isNothing b) _
+      (by-or (isNothing b) (not (isNothing (kept (form n) n b)) && mayGive names (preserveIndirectAccess t′) b) (λ q. q)
+      (λ q. aside-gives t′ b (both (not (isNothing (kept (form n) n b))) (mayGive names (preserveIndirectAccess t′) b) q .1)) e)
+
+  child-aside : (n : Node) (t t′ : Tree) (ts : Trees) → ((role : Role) → firstRole (form n) n role ≡ value) → Follows t t′ → FollowsChildren n (more t ts) (more (preserveIndirectAccess t′) ts)
+  child-aside n t t′ ts g h = record {
+    keep = λ b e. aside-keep n t t′ ts ts b e;
+    hand = hand-both n t (preserveIndirectAccess t′) ts ts (λ b e. aside-keep n t t′ ts ts b e) (λ w hs e. e);
+    within = λ role w.
+        row-join Value f (preserveIndirectAccess t′) ts (firstRole (form n) n role)
+        (aside-within t′ (firstRole (form n) n role) (h .within value (λ e. refl) (subst (λ (ρ : Role). Within Value f ρ t) (g role) (row-first Value f t ts (firstRole (form n) n role) w))))
+        (row-others Value f t ts (firstRole (form n) n role) w);
+  }
+
+  tag-order : (n : Node) (t : Tree) (ts : Trees) (a : Answer Tree) (b : Answer Trees) → Enters v r tag (form n) n t → Follow t a → Answered FollowsRow ts b → Answered (FollowsChildren n) (more t ts) (inOrder t ts (asTag a) b)
+  unfolding asTag inOrder
+  tag-order n t ts (replaced t′) b (e, g, h, k) x y = λ p. child-aside n t t′ ts (value-of-all (form n) n h g k) (x p)
+  tag-order n t ts (stopped t′) b (e, g, h, k) x y = clash (isSpecificId v (root t)) (x .0) e
+  tag-order n t ts passed b (e, g, h, k) x y = rest-order n t ts b y
+
+  -- The children of a node, as the plan has it.
+  plan-order : (p : Plan) (n : Node) (t : Tree) (ts : Trees) (a : Answer Tree) (b : Answer Trees) → Enters v r p (form n) n t → Follow t a → Answered FollowsRow ts b → Answered (FollowsChildren n) (more t ts) (byPlan p t ts a b)
+  unfolding byPlan
+  plan-order all n t ts a b e x y = first-order n t ts a b e x y
+  plan-order first n t ts a b e x y = first-order n t ts a b e x y
+  plan-order none-at-all n t ts a b e x y = tt
+  plan-order behind n t ts a b e x y = rest-order n t ts b y
+  plan-order test n t ts a b e x y = first-order n t ts a b e x y
+  plan-order branches n t ts a b e x y = absurd e
+  plan-order tag n t ts a b e x y = tag-order n t ts a b e x y
+
+  -- A node.
+  walked-root : (n : Node) → (walked n .kind ≡ n .kind) × (walked n .label ≡ n .label)
+  unfolding walked
+  walked-root n = (refl, refl)
+
+  node-gives : (n : Node) (ts ts′ : Trees) → FollowsChildren (cleared n) ts ts′ → (b : Beside Value) → mayGive names (node (walked n) ts′) b ≡ true → mayGive names (node n ts) b ≡ true
+  unfolding mayGive
+  node-gives n ts ts′ h b e =
+      by-or (offers names (walked n) b) (is 13 (walked n) && mayKeep names (cleared (walked n)) ts′ b)
+      (λ q. or-left (offers names n b) _ (sym (offers-same names (walked n) n b (walked-root n .0) (walked-root n .1)) ∙ q))
+      (λ q. let (x, y) = both (is 13 (walked n)) (mayKeep names (cleared (walked n)) ts′ b) q in
+      or-right (offers names n b) _ (rw (rw (walked-root n .0) at x, h .keep b (subst (λ c. mayKeep names c ts′ b ≡ true) (same-cleared n) y)))) e
+
+  node-within : (n : Node) (ts ts′ : Trees) → FollowsChildren (cleared n) ts ts′ → (role : Role) → Within Value f role (node n ts) → (d : Asked) (x : Step Value) → (makesHere names d x (cleared n) role ts′ || makesInRow names d x ts′ (firstRole (form (cleared n)) (cleared n) role)) ≡ true → makes d f x ≡ true
+  node-within n ts ts′ h role g d x e =
+      by-or (makesHere names d x (cleared n) role ts′) (makesInRow names d x ts′ (firstRole (form (cleared n)) (cleared n) role))
+      (λ q. g d x (here q)) (λ q. h .within role (node-children Value f n ts role g) d x q) e
+    where
+      hands : makesHere names d x (cleared n) role ts′ ≡ true → makesHere names d x (cleared n) role ts ≡ true
+      hands q = unfold makesHere in (
+          let (a, b) = both (someTurn d (choiceOf (form (cleared n))) (λ w. inHand names (cleared n) w ts′ (x .hand)) && asks d names (form (cleared n)) (cleared n) role) (sameOrigin (originOf (cleared n) role) (x .origin)) q in
+          let (c, k) = both (someTurn d (choiceOf (form (cleared n))) (λ w. inHand names (cleared n) w ts′ (x .hand))) (asks d names (form (cleared n)) (cleared n) role) a in
+          rw (turn-on d (choiceOf (form (cleared n))) (λ w. inHand names (cleared n) w ts′ (x .hand)) (λ w. inHand names (cleared n) w ts (x .hand)) (λ w z. h .hand w (x .hand) z) c, k, b)
+          )
+
+      here : makesHere names d x (cleared n) role ts′ ≡ true → makesIn names d x (node n ts) role ≡ true
+      here q = unfold makesIn in or-left (makesHere names d x (cleared n) role ts) _ (hands q)
+
+  node-follows : (n : Node) (ts ts′ : Trees) → FollowsChildren (cleared n) ts ts′ → Follows (node n ts) (node (walked n) ts′)
+  node-follows n ts ts′ h = record {
+    gives = λ b e. or-left (mayGive names (node n ts) b) _ (node-gives n ts ts′ h b e);
+    within = λ role s g d x e. node-within n ts ts′ h role g d x (subst (λ c. (makesHere names d x c role ts′ || makesInRow names d x ts′ (firstRole (form c) c role)) ≡ true) (same-cleared n) (unfold makesIn in e));
+  }
+
+  of-node : (n : Node) (ts : Trees) (pass : Bool) (a : Answer Trees) → isSpecificId v n ≡ false → Answered (FollowsChildren (cleared n)) ts a → Follow (node n ts) (ofNode n ts pass a)
+  unfolding ofNode
+  of-node n ts pass (replaced ts′) e h = λ p. node-follows n ts ts′ (h p)
+  of-node n ts pass (stopped ts′) e h = (e, node-follows n ts ts′ h)
+  of-node n ts true passed e h = tt
+  of-node n ts false passed e h = (e, tree-same (node n ts))
+
+  -- the name itself
+  at-name : (n : Node) (ts : Trees) → isSpecificId v n ≡ true → Placeable → Follows (node n ts) (at (n .position) r)
+  at-name n ts e p = record {
+    gives = λ b g. or-right (mayGive names (node n ts) b) _ (rw (e, sym (give-at names (n .position) r b) ∙ g));
+    within = λ role s g. subst (λ (ρ : Role). Within Value f ρ (at (n .position) r)) (sym (s e)) (λ d x q. p .steps d x (sym (makes-at names (n .position) d x r value) ∙ q));
+  }
+
+  or-name : (n : Node) (ts : Trees) (b : Bool) (a : Answer Tree) → isSpecificId v n ≡ b → (b ≡ false → Follow (node n ts) a) → Follow (node n ts) (cond b (replaced (at (n .position) r)) a)
+  or-name n ts true a e h = λ p. at-name n ts e p
+  or-name n ts false a e h = h refl
+
+  module _ (ctx : Context) where
+    enters : (n : Node) (t : Tree) (ts : Trees) → standUnder n 0 (more t ts) ≡ true → Enters v r (plan ctx v r (shape n) n (more t ts)) (form (cleared n)) (cleared n) t
+    enters n t ts h = subst (λ F. Enters v r (plan ctx v r (shape n) n (more t ts)) F (cleared n) t) (sym (form-shape n)) (plan-enters v r ctx (shape n) n t ts (shape-kinds n) h)
+
+    mutual
+      unfolding substituteInExpression
+
+      follows : (t : Tree) → placed t ≡ true → Follow t (substituteInExpression ctx v r t)
+      follows (node n ts) h = or-name n ts (isSpecificId v n) _ refl (λ e. of-node n ts (mayPass ctx v r (shape n) n ts) _ e (children-follow ts n (under n ts h .0) (under n ts h .1)))
+
+      children-follow : (ts : Trees) (n : Node) → standUnder n 0 ts ≡ true → allPlaced ts ≡ true → Answered (FollowsChildren (cleared n)) ts (substituteInChildren ctx v r (plan ctx v r (shape n) n ts) ts)
+      children-follow none n h g = tt
+      children-follow (more t ts) n h g =
+          plan-order (plan ctx v r (shape n) n (more t ts)) (cleared n) t ts _ _ (enters n t ts h) (follows t (in-row t ts g .0)) (others-follow ts (plan ctx v r (shape n) n (more t ts)) (in-row t ts g .1))
+
+      others-follow : (ts : Trees) (p : Plan) → allPlaced ts ≡ true → Answered FollowsRow ts (substituteInChildren ctx v r (next p) ts)
+      others-follow none p g = tt
+      others-follow (more t ts) p g = row-plan p t ts _ _ (follows t (in-row t ts g .0)) (others-follow ts (next p) (in-row t ts g .1))
+
+    -- a search that replaces, and one that stops
+    pub replaced-within : (t t′ : Tree) → placed t ≡ true → substituteInExpression ctx v r t ≡ replaced t′ → Placeable → Within Value f value t → Within Value f value t′
+    replaced-within t t′ h e p w = subst (λ a. Follow t a) e (follows t h) p .within value (λ g. refl) w
+
+    pub stopped-within : (t t′ : Tree) → placed t ≡ true → substituteInExpression ctx v r t ≡ stopped t′ → Within Value f value t → Within Value f value t′
+    stopped-within t t′ h e w = subst (λ a. Follow t a) e (follows t h) .1 .within value (λ g. refl) w
