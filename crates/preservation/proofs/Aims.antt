@@ -37,7 +37,7 @@ use Rattle.preservation.proofs.Setting.{Setting}
 use Rattle.preservation.proofs.Passing.{Calm, Reason, reading, steady, two-reasons}
 use Rattle.preservation.proofs.WellMade.{wellMade, allWellMade, well-node, well-more, named-in, one-child, two-children}
 use Rattle.preservation.proofs.Open.{by-calm, by-constant, by-settled}
-use Rattle.preservation.proofs.Bare.{other-kind}
+use Rattle.preservation.proofs.ByKind.{other-kind}
 use Rattle.preservation.proofs.Children.{Other, straight-why}
 
 module _ {Value Rest : Type 0} (σ : Setting Value Rest) where

@@ -15,7 +15,7 @@ use Rattle.runs.specs.Form.{cleared, isMarked, Choice, never, logical, conditio
 use Rattle.runs.specs.State.{State, Out, gave, bind}
 use Rattle.runs.specs.Run.{Turn, all, takes, then, resolved, isRead, gathered, chosen, stepped, queued, held, goesOn, own, beside, finished, runNode, run, runChildren, runOthers}
 use Rattle.runs.specs.Script.{isPattern, sets, gives, binds, declaresBare, declaresWith, runDeclarator, runDeclarators, runStatement, runStatements, begin}
-use Rattle.runs.specs.InHand.{valuesOf, isNothing, inHand}
+use Rattle.runs.specs.InHand.{sort, valuesOf, isNothing, inHand}
 use Rattle.runs.specs.Makes.{Asked, choice, step, isMarkedStep, isChoice, makesOwn, asks, someTurn, makesIn, makesMarked, makesDeclarator, makesStatement, makes}
 use Rattle.statements.specs.Declarators.{isUsing}
 use Rattle.runs.specs.Facts.{Each, TargetSame, TargetsSame, AllTargetsSame, FoldKeeps}
@@ -26,7 +26,7 @@ use Rattle.preservation.proofs.Passing.{bind-same}
 use Rattle.preservation.proofs.Same.{inTurn-same, goes-same, hand-of}
 use Rattle.preservation.proofs.Cut.{cutTo}
 use Rattle.preservation.proofs.Hands.{choice-fits, gathered-fits, given-fits, hand-fits}
-use Rattle.preservation.proofs.Within.{same-origin, Within, WithinRow, WithinDeclarator, WithinDeclarators, WithinProgram, WithinFold, node-steps, node-children, row-first, row-others, first-part, other-parts}
+use Rattle.preservation.proofs.Within.{same-origin, Within, WithinRow, WithinDeclarator, declarator-made, WithinDeclarators, WithinProgram, WithinFold, node-steps, node-children, row-first, row-others, initializer-within, first-part, other-parts}
 
 same-self : (b : Bool) → Bool·beq b b ≡ true
 same-self true = refl
@@ -153,7 +153,7 @@ module _ {Value Rest : Type 0} (f : File) (m : Meaning Value Rest) where
   no-values = refl
 
   one-value : (t : Tree) (w : Value) → valuesOf all (more t none) (only w ∷ []) ≡ true
-  unfolding valuesOf takes then isNothing
+  unfolding valuesOf takes then isNothing sort
   one-value t w = refl
 
   abbrev bound : DeclarationKind → ℕ → Hand Value → Step Value
@@ -194,26 +194,19 @@ module _ {Value Rest : Type 0} (f : File) (m : Meaning Value Rest) where
   with-cut Using a t w s h = using-cut Using a t w s refl h
   with-cut AwaitUsing a t w s h = using-cut AwaitUsing a t w s refl h
 
-  initializer-within : (k : DeclarationKind) (a : ℕ) (t : Tree) → WithinDeclarator Value f k a (given t) → Within Value f value t
-  unfolding makesDeclarator
-  initializer-within k a t h d x e = h d x (or-left _ _ e)
-
   declarator-cut : (k : DeclarationKind) (a : ℕ) (i : Initializer) (s : S) → WithinDeclarator Value f k a i → runDeclarator names m k a i s ≡ runDeclarator names m′ k a i s
   unfolding runDeclarator
   declarator-cut k a bare s h = bare-cut k a s h
   declarator-cut k a (given t) s h =
-      ap (λ o. bind o (λ x s′. declaresWith m k a (x .value) s′)) (run-cut t value (initializer-within k a t h) s)
+      ap (λ o. bind o (λ x s′. declaresWith m k a (x .value) s′)) (run-cut t value (initializer-within Value f k a t h) s)
       ∙ bind-same (run names m′ t value s) _ _ (λ x s′. with-cut k a t (x .value) s′ h)
-
-  abbrev made-declarator : DeclarationKind → Asked → Step Value → Declarator → Bool
-  made-declarator k d x e = makesDeclarator names d x k (e .name) (e .initializer)
 
   declarators-cut : (k : DeclarationKind) (ds : List Declarator) (s : S) → WithinDeclarators Value f k ds → runDeclarators names m k ds s ≡ runDeclarators names m′ k ds s
   unfolding runDeclarators
   declarators-cut k [] s h = refl
   declarators-cut k (d ∷ ds) s h =
-      ap (λ o. bind o (λ u s′. runDeclarators names m k ds s′)) (declarator-cut k (d .name) (d .initializer) s (first-part Value f (made-declarator k) d ds h))
-      ∙ bind-same (runDeclarator names m′ k (d .name) (d .initializer) s) _ _ (λ u s′. declarators-cut k ds s′ (other-parts Value f (made-declarator k) d ds h))
+      ap (λ o. bind o (λ u s′. runDeclarators names m k ds s′)) (declarator-cut k (d .name) (d .initializer) s (first-part Value f (declarator-made Value f k) d ds h))
+      ∙ bind-same (runDeclarator names m′ k (d .name) (d .initializer) s) _ _ (λ u s′. declarators-cut k ds s′ (other-parts Value f (declarator-made Value f k) d ds h))
 
   -- statements
   statement-cut : (t : Statement) (s : S) → ((d : Asked) (x : Step Value) → makesStatement names d x t ≡ true → makes d f x ≡ true) → runStatement names m t s ≡ runStatement names m′ t s

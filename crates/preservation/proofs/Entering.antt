@@ -4,12 +4,12 @@ use Prim.Native.Nat.{ℕ}
 use mathlib.Core.Bool.{Bool, true, false, cond, _&&_, _||_}
 use mathlib.Core.Path.{_≡_, refl}
 use lib.Dec.{eqb}
-use borrow.Author.Tests.{eqb-true, not-true}
+use borrow.Author.Tests.{not-true}
 use Rattle.records.specs.Flags.{computed}
 use Rattle.records.specs.Node.{isLink}
 use Rattle.records.specs.Tree.{Node, Tree, Trees, node, more}
 use Rattle.records.specs.File.{firstTree}
-use Rattle.records.specs.Place.{root, mayStand, standUnder}
+use Rattle.records.specs.Place.{root, standUnder}
 use Rattle.records.proofs.Tests.{clash, neither}
 use Rattle.walk.specs.Context.{Context}
 use Rattle.walk.specs.Effect.{mayHaveSideEffects}
@@ -21,8 +21,7 @@ use Rattle.runs.specs.Form.{is, cleared, isDelete, Form, chain, property, impor
 use Rattle.runs.specs.Run.{kept}
 use Rattle.preservation.proofs.Tests.{by-or, and-off, and-on, and-mid, same-cond}
 use Rattle.preservation.proofs.Tables.{choosing, formOf, shapeKinds}
-use Rattle.preservation.proofs.Kept.{stands}
-use Rattle.preservation.proofs.Bare.{other-kind}
+use Rattle.preservation.proofs.ByKind.{other-kind, chain-child as link-below}
 
 undelete : (n : Node) → is 9 n ≡ false → isDelete (cleared n) ≡ false
 unfolding isDelete cleared
@@ -106,8 +105,8 @@ module _ (v : ℕ) (r : Tree) where
 
   -- the child of a chain is no name
   chain-child : (n : Node) (t : Tree) (ts : Trees) → is 13 n ≡ true → standUnder n 0 (more t ts) ≡ true → isSpecificId v (root t) ≡ false
-  unfolding mayStand isSpecificId
-  chain-child n t ts e h = not-name (root t) (rw (eqb-true (n .kind) 13 e) at (stands n 0 t ts h .0))
+  unfolding isSpecificId
+  chain-child n t ts e h = not-name (root t) (link-below n t ts e h)
     where
       not-name : (k : Node) → isLink (k .kind) ≡ true → (is 4 k && eqb (k .label) v) ≡ false
       not-name k g = rw (link-not k 4 (regrouped (is 10 k) (is 11 k) (is 12 k) (is 14 k) g) refl refl refl refl)

@@ -1,34 +1,28 @@
 -- What is in hand at a node of a run is what the file lets it have in hand.
-use Prim.Native.Nat.{ℕ}
-use mathlib.Core.Bool.{Bool, true, false, cond, _&&_, _||_, not}
+use mathlib.Core.Bool.{Bool, true, false, cond, _&&_, _||_}
 use mathlib.Core.List.{List, [], _∷_}
 use mathlib.Core.Path.{_≡_, refl}
-use lib.Dec.{eqb}
-use borrow.Author.Tests.{eq-eqb}
+use borrow.Author.Tests.{eqb-true}
 use Rattle.records.specs.Flags.{isEval}
 use Rattle.records.specs.Script.{flagsOf}
 use Rattle.records.specs.Tree.{Node, Tree, Trees, node, none, more}
+use Rattle.records.specs.Place.{root}
 use Rattle.records.specs.declared.layout.NameFacts.{NameFacts}
-use Rattle.records.proofs.Tests.{clash}
-use Rattle.runs.specs.Hand.{static, private, computed, Beside, nothing, bareEval, targetName as aTarget, opaqueTarget, member, Given, Hand, only, firstOr, lastOr}
+use Rattle.records.proofs.Tests.{clash, both}
+use Rattle.runs.specs.Hand.{Beside, nothing, Given, Hand, only, firstOr}
 use Rattle.runs.specs.Step.{Role, value}
 use Rattle.runs.specs.Meaning.{Meaning}
-use Rattle.runs.specs.Form.{is, cleared, isDelete, Choice, never, logical, conditional, optionally, Form, form, childless, isName, isChain, isAssignment, choiceOf, firstRole}
+use Rattle.runs.specs.Form.{is, cleared, Choice, never, logical, conditional, optionally, form, order, childless, isName, isChain, choiceOf, firstRole}
 use Rattle.runs.specs.State.{State, Out, gave}
 use Rattle.runs.specs.Run.{Turn, all, skipped, second, third, takes, then, kept, caught, gathered, chosen, inTurn, goesOn, own, beside, finished, runNode, run, runChildren, runOthers}
-use Rattle.runs.specs.InHand.{isNothing, hasKey, offers, mayGive, mayKeep, valuesOf, inHand}
+use Rattle.runs.specs.InHand.{sort, sameBeside, isNothing, besideOf, keptOf, mayKeep, valuesOf, inHand}
 use Rattle.runs.specs.Makes.{Asked, choice, step, someTurn}
 use Rattle.preservation.proofs.Tests.{by-or, or-left, or-right}
-use Rattle.preservation.proofs.Bare.{name-kind, chain-kind}
+use Rattle.preservation.proofs.Tables.{name-form}
+use Rattle.preservation.proofs.Besides.{same-sort, sort-same, sort-cond, kept-like, nothing-kept}
+use Rattle.preservation.proofs.ByKind.{name-kind, chain-kind}
 use Rattle.preservation.proofs.Ends.{Ends, gives, cuts, halts, ends-bind, ends-any, ends-map, First}
 use Rattle.preservation.proofs.Same.{hand-of}
-
-or-not : (b : Bool) → (b || not b && true) ≡ true
-or-not true = refl
-or-not false = refl
-
-same-label : (n : Node) → eqb (n .label) (n .label) ≡ true
-same-label n = eq-eqb (n .label) (n .label) refl
 
 -- a test of turns that holds of more of them, and of all
 pub turn-on : (d : Asked) (c : Choice) (test test′ : Turn → Bool) → ((w : Turn) → test w ≡ true → test′ w ≡ true) → someTurn d c test ≡ true → someTurn d c test′ ≡ true
@@ -51,60 +45,71 @@ module _ (Value : Type 0) (names : List NameFacts) where
   abbrev B : Type 0
   B = Beside Value
 
-  -- What a node keeps of what its first child gives, it may keep.
-  keeps-by : (k : Bool) (n : Node) (t : Tree) (ts : Trees) (b : B) → (k ≡ true → kept (form n) n b ≡ b) → mayGive names t b ≡ true → mayKeep names n (more t ts) (cond k b nothing) ≡ true
-  unfolding mayGive isNothing
-  keeps-by true n t ts b h g = rw (h refl, g) (or-not (isNothing b))
-  keeps-by false n t ts b h g = refl
+  -- what a tree may give beside its value
+  abbrev Gives : Tree → B → Type 0
+  Gives t b = (sameBeside (besideOf names t) b || is 13 (root t) && isNothing b) ≡ true
 
-  keeps : (n : Node) (t : Tree) (ts : Trees) (b : B) → mayGive names t b ≡ true → mayKeep names n (more t ts) (kept (form n) n b) ≡ true
-  unfolding kept
-  keeps n t ts nothing g = keeps-by false n t ts nothing (λ e. refl) g
-  keeps n t ts bareEval g = keeps-by (is 14 n) n t ts bareEval (λ e. rw e) g
-  keeps n t ts (aTarget a) g = keeps-by (isAssignment (form n)) n t ts (aTarget a) (λ e. rw e) g
-  keeps n t ts (opaqueTarget l) g = keeps-by (isAssignment (form n)) n t ts (opaqueTarget l) (λ e. rw e) g
-  keeps n t ts (member o k) g = keeps-by (is 14 n || is 24 n || isDelete n || isAssignment (form n) || isChain (form n)) n t ts (member o k) (λ e. rw e) g
-
-  -- What a node gives beside its value, it may give.
-  abbrev Gives : Node → Trees → B → Type 0
-  Gives n ts b = mayGive names (node n ts) b ≡ true
-
-  gives-own : (n : Node) (ts : Trees) (b : B) → offers names n b ≡ true → Gives n ts b
-  unfolding mayGive
-  gives-own n ts b e = or-left (offers names n b) _ e
-
-  offers-eval : (n : Node) (t : Bool) → is 4 n ≡ true → isEval (flagsOf names (n .label)) ≡ t → offers {Value = Value} names n (cond t bareEval nothing) ≡ true
-  unfolding offers
-  offers-eval n true e g = rw (e, g)
-  offers-eval n false e g = refl
-
-  gives-first : (n : Node) (ts : Trees) (w : Value) (hs : Hand Value) → is 13 n ≡ true → First (λ b. mayKeep names (cleared n) ts b ≡ true) hs → Gives n ts (firstOr w hs .beside)
-  unfolding mayGive offers firstOr
-  gives-first n ts w [] e h = refl
-  gives-first n ts w (x ∷ hs) e h = or-right (offers names n (x .beside)) _ (rw (e, h))
-
-  gives-cond : (n : Node) (ts : Trees) (t : Bool) (b c : B) → (t ≡ true → Gives n ts b) → Gives n ts c → Gives n ts (cond t b c)
-  gives-cond n ts true b c h g = h refl
-  gives-cond n ts false b c h g = g
+  -- what a node keeps of it, it may keep
+  keeps : (n : Node) (t : Tree) (b : B) → Gives t b → mayKeep names n t (kept (form n) n b) ≡ true
+  unfolding mayKeep
+  keeps n t b e =
+      by-or (sameBeside (besideOf names t) b) (is 13 (root t) && isNothing b) (λ q. or-left _ _ (same-sort (kept (form n) n (besideOf names t)) (kept (form n) n b) (kept-like (form n) n (besideOf names t) b (sort-same (besideOf names t) b q))))
+      (λ q. let (x, y) = both (is 13 (root t)) (isNothing b) q in or-right (sameBeside (kept (form n) n (besideOf names t)) (kept (form n) n b)) _ (rw (x, nothing-kept (form n) n b y))) e
 
   module _ {Rest : Type 0} (m : Meaning Value Rest) where
-    gives-beside : (n : Node) (ts : Trees) (hs : Hand Value) → First (λ b. mayKeep names (cleared n) ts b ≡ true) hs → Gives n ts (beside names m (form (cleared n)) (cleared n) hs)
-    unfolding beside cleared offers hasKey
-    gives-beside n ts hs h =
-        gives-cond n ts (isName (form (cleared n))) _ _ (λ e. gives-own n ts _ (offers-eval n (isEval (flagsOf names (n .label))) (name-kind n e) refl))
-        (gives-cond n ts (is 29 n) _ _ (λ e. gives-own n ts (aTarget (n .label)) (rw (e, same-label n)))
-        (gives-cond n ts (is 30 n) _ _ (λ e. gives-own n ts (opaqueTarget (n .label)) (rw (e, same-label n)))
-        (gives-cond n ts (is 10 n) _ _ (λ e. gives-own n ts (member (firstOr (m .undefined) hs .value) (static (n .label))) (rw (e, same-label n)))
-        (gives-cond n ts (is 11 n) _ _ (λ e. gives-own n ts (member (firstOr (m .undefined) hs .value) (private (n .label))) (rw (e, same-label n)))
-        (gives-cond n ts (is 12 n) _ _ (λ e. gives-own n ts (member (firstOr (m .undefined) hs .value) (computed (lastOr (m .undefined) hs))) e)
-        (gives-cond n ts (isChain (form (cleared n))) _ _ (λ e. gives-first n ts (m .undefined) hs (chain-kind n e) h) (gives-own n ts nothing refl)))))))
+    abbrev Keeps : Node → Trees → Hand Value → Type 0
+    Keeps n none hs = First (λ b. ⊥) hs
+    Keeps n (more t ts) hs = First (λ b. mayKeep names n t b ≡ true) hs
+
+    -- What a node gives beside its value, it may give. A chain:
+    abbrev none-beside : B
+    none-beside = nothing
+
+    chain-beside : (n : Node) (ts : Trees) (hs : Hand Value) → is 13 n ≡ true → (beside names m (form (cleared n)) (cleared n) hs ≡ firstOr (m .undefined) hs .beside) × (besideOf names (node n ts) ≡ keptOf names (cleared n) ts)
+    unfolding beside cleared besideOf form isName isChain order
+    chain-beside n ts hs e = rw (eqb-true (n .kind) 13 e) (refl, refl)
+
+    chain-gives : (n : Node) (ts : Trees) (hs : Hand Value) → Keeps n ts hs → (sameBeside (keptOf names n ts) (firstOr (m .undefined) hs .beside) || isNothing (firstOr (m .undefined) hs .beside)) ≡ true
+    unfolding firstOr mayKeep besideOf
+    chain-gives n ts [] h = or-right (sameBeside (keptOf names n ts) none-beside) (isNothing none-beside) (unfold isNothing sort in refl)
+    chain-gives n none (x ∷ hs) h = absurd h
+    chain-gives n (more t ts) (x ∷ hs) h =
+        by-or (sameBeside (kept (form n) n (besideOf names t)) (x .beside)) (is 13 (root t) && isNothing (x .beside)) (λ q. or-left _ _ q)
+        (λ q. or-right (sameBeside (kept (form n) n (besideOf names t)) (x .beside)) _ (both (is 13 (root t)) (isNothing (x .beside)) q .1)) h
+
+    -- any other
+    name-test : (n : Node) → isName (form (cleared n)) ≡ is 4 n
+    name-test n = by (is 4 n) (isName (form (cleared n))) refl refl
+      where
+        by : (b c : Bool) → is 4 n ≡ b → isName (form (cleared n)) ≡ c → isName (form (cleared n)) ≡ is 4 n
+        by true c e g = rw e (rw (name-form (cleared n) (unfold cleared in e)) (unfold isName order in refl))
+        by false true e g = clash (is 4 n) e (name-kind n g)
+        by false false e g = rw (e, g)
+
+    chain-test : (n : Node) → is 13 n ≡ false → isChain (form (cleared n)) ≡ false
+    chain-test n e = by (isChain (form (cleared n))) refl
+      where
+        by : (b : Bool) → isChain (form (cleared n)) ≡ b → isChain (form (cleared n)) ≡ false
+        by true g = clash (is 13 n) e (chain-kind n g)
+        by false g = g
+
+    other-beside : (n : Node) (ts : Trees) (hs : Hand Value) → is 13 n ≡ false → sort (besideOf names (node n ts)) ≡ sort (beside names m (form (cleared n)) (cleared n) hs)
+    unfolding beside cleared besideOf sort
+    other-beside n ts hs e =
+        rw (name-test n, chain-test n e, e)
+        (sort-cond (is 4 n) _ _ _ _ (sort-cond (isEval (flagsOf names (n .label))) _ _ _ _ refl refl)
+        (sort-cond (is 29 n) _ _ _ _ refl (sort-cond (is 30 n) _ _ _ _ refl (sort-cond (is 10 n) _ _ _ _ refl (sort-cond (is 11 n) _ _ _ _ refl (sort-cond (is 12 n) _ _ _ _ refl refl))))))
+
+    gives-by : (b : Bool) (n : Node) (ts : Trees) (hs : Hand Value) → is 13 n ≡ b → Keeps (cleared n) ts hs → Gives (node n ts) (beside names m (form (cleared n)) (cleared n) hs)
+    gives-by true n ts hs e h = let (x, y) = chain-beside n ts hs e in rw (x, y, e) (chain-gives (cleared n) ts hs h)
+    gives-by false n ts hs e h = or-left _ _ (same-sort (besideOf names (node n ts)) (beside names m (form (cleared n)) (cleared n) hs) (other-beside n ts hs e))
+
+    gives-beside : (n : Node) (ts : Trees) (hs : Hand Value) → Keeps (cleared n) ts hs → Gives (node n ts) (beside names m (form (cleared n)) (cleared n) hs)
+    gives-beside n ts hs h = gives-by (is 13 n) n ts hs refl h
 
     -- how parts come out: a tree; children behind the first; the children of a node
     abbrev pub Given-fits : Tree → Out Value Rest (Given Value) → Type 0
-    Given-fits t o = Ends (λ x s. mayGive names t (x .beside) ≡ true) (λ s. Unit {0}) (Unit {0}) o
-
-    abbrev Keeps : Node → Trees → Hand Value → Type 0
-    Keeps n ts hs = First (λ b. mayKeep names n ts b ≡ true) hs
+    Given-fits t o = Ends (λ x s. Gives t (x .beside)) (λ s. Unit {0}) (Unit {0}) o
 
     abbrev Stands : Node → Trees → Hand Value → Type 0
     Stands n ts hs = isChain (form n) ≡ false → (marked : Bool) → someTurn (step marked) (choiceOf (form n)) (λ w. inHand names n w ts hs) ≡ true
@@ -128,7 +133,7 @@ module _ (Value : Type 0) (names : List NameFacts) where
     values-skip w t ts (x ∷ hs) e h = rw (e, h)
 
     values-take : (w : Turn) (t : Tree) (ts : Trees) (u : Value) (hs : Hand Value) → takes w ≡ true → valuesOf (then w) ts hs ≡ true → valuesOf w (more t ts) (only u ∷ hs) ≡ true
-    unfolding valuesOf isNothing
+    unfolding valuesOf isNothing sort
     values-take w t ts u hs e h = rw (e, h)
 
     turn-fits : (b : Bool) (w : Turn) (t : Tree) (ts : Trees) (child : State Value Rest → Out Value Rest (Given Value)) (others : State Value Rest → Out Value Rest (Hand Value)) (s : State Value Rest) → takes w ≡ b → ((s : State Value Rest) → Values (then w) ts (others s)) → Values w (more t ts) (cond b (inTurn child others s) (others s))
@@ -160,26 +165,30 @@ module _ (Value : Type 0) (names : List NameFacts) where
     chosen-fit ts optionally false others s h = cuts tt
 
     -- with what the first child gave
-    keeps-first : (n : Node) (w : Turn) (t : Tree) (ts : Trees) (x : Given Value) (hs : Hand Value) → mayGive names t (x .beside) ≡ true → valuesOf w ts hs ≡ true → inHand names n w (more t ts) (hand-of (form n) n x ∷ hs) ≡ true
+    keeps-first : (n : Node) (w : Turn) (t : Tree) (ts : Trees) (x : Given Value) (hs : Hand Value) → Gives t (x .beside) → valuesOf w ts hs ≡ true → inHand names n w (more t ts) (hand-of (form n) n x ∷ hs) ≡ true
     unfolding inHand
-    keeps-first n w t ts x hs e h = rw (keeps n t ts (x .beside) e, h)
+    keeps-first n w t ts x hs e h = rw (keeps n t (x .beside) e, h)
 
     none-skipped : (ts : Trees) → valuesOf {Value = Value} skipped ts [] ≡ true
     unfolding valuesOf takes then
     none-skipped none = refl
     none-skipped (more t ts) = none-skipped ts
 
-    pub choice-fits : (n : Node) (t : Tree) (ts : Trees) (x : Given Value) → mayGive names t (x .beside) ≡ true → someTurn choice (choiceOf (form n)) (λ w. inHand names n w (more t ts) (hand-of (form n) n x ∷ [])) ≡ true
+    pub choice-fits : (n : Node) (t : Tree) (ts : Trees) (x : Given Value) → Gives t (x .beside) → someTurn choice (choiceOf (form n)) (λ w. inHand names n w (more t ts) (hand-of (form n) n x ∷ [])) ≡ true
     unfolding someTurn
     choice-fits n t ts x e = keeps-first n skipped t ts x [] e (none-skipped ts)
 
-    goesOn-fits : (n : Node) (t : Tree) (ts : Trees) (role : Role) (others : Turn → State Value Rest → Out Value Rest (Hand Value)) (x : Given Value) (s : State Value Rest) → mayGive names t (x .beside) ≡ true → ((w : Turn) → Values w ts (others w s)) → Hand-fits n (more t ts) (goesOn m (form n) n role others x s)
+    goesOn-fits : (n : Node) (t : Tree) (ts : Trees) (role : Role) (others : Turn → State Value Rest → Out Value Rest (Hand Value)) (x : Given Value) (s : State Value Rest) → Gives t (x .beside) → ((w : Turn) → Values w ts (others w s)) → Hand-fits n (more t ts) (goesOn m (form n) n role others x s)
     unfolding goesOn
     goesOn-fits n t ts role others x s e h =
         ends-bind (chosen-fit ts (choiceOf (form n)) _ others s h) (λ hs s′ g.
-        gives (keeps n t ts (x .beside) e, λ q k. turn-on (step k) (choiceOf (form n)) (λ w. valuesOf w ts hs) (λ w. inHand names n w (more t ts) (hand-of (form n) n x ∷ hs)) (λ w z. keeps-first n w t ts x hs e z) (g k)))
+        gives (keeps n t (x .beside) e, λ q k. turn-on (step k) (choiceOf (form n)) (λ w. valuesOf w ts hs) (λ w. inHand names n w (more t ts) (hand-of (form n) n x ∷ hs)) (λ w z. keeps-first n w t ts x hs e z) (g k)))
 
     -- no child has run
+    no-keeps : (n : Node) (ts : Trees) → Keeps n ts []
+    no-keeps n none = tt
+    no-keeps n (more t ts) = tt
+
     none-hand : (n : Node) (w : Turn) (ts : Trees) → childless (form n) ≡ true → inHand {Value = Value} names n w ts [] ≡ true
     unfolding inHand
     none-hand n w none e = refl
@@ -187,9 +196,9 @@ module _ (Value : Type 0) (names : List NameFacts) where
 
     gathered-by : (b c : Bool) (n : Node) (ts : Trees) (o : Out Value Rest (Hand Value)) (s : State Value Rest) → childless (form n) ≡ b → isChain (form n) ≡ c → Hand-fits n ts o → Hand-fits n ts (cond b (gave [] s) (cond c (caught o) o))
     unfolding caught
-    gathered-by true c n ts o s e g h = gives (tt, λ q k. turn-any (step k) (choiceOf (form n)) (λ w. inHand names n w ts []) (λ w. none-hand n w ts e))
+    gathered-by true c n ts o s e g h = gives (no-keeps n ts, λ q k. turn-any (step k) (choiceOf (form n)) (λ w. inHand names n w ts []) (λ w. none-hand n w ts e))
     gathered-by false true n ts o s e g (gives h) = gives h
-    gathered-by false true n ts o s e g (cuts h) = gives (tt, λ q. clash (isChain (form n)) q g)
+    gathered-by false true n ts o s e g (cuts h) = gives (no-keeps n ts, λ q. clash (isChain (form n)) q g)
     gathered-by false true n ts o s e g (halts h) = halts tt
     gathered-by false false n ts o s e g h = h
 

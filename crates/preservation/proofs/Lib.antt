@@ -1,8 +1,8 @@
--- The fold of a single-use name keeps the run of a script: of one tree (OneFold), and of a whole file (Whole,
--- Unchanged).
+-- The fold of a single-use name keeps the run of a script: of one tree (OneFold); of a whole file, where the facts are true of
+-- every step (Whole), and where they are true of the steps that the file can make (Unchanged).
 pub mod Tests
 pub mod OfAll
--- runs: what they keep, and what they don't look at
+-- runs: what they keep, what they don't look at, and what is in hand
 pub mod Words
 pub mod Ends
 pub mod Tables
@@ -11,6 +11,9 @@ pub mod Frame
 pub mod Kept
 pub mod Same
 pub mod At
+pub mod ByKind
+pub mod Besides
+pub mod Hands
 pub mod Bare
 -- one fold of a tree
 pub mod Setting
@@ -46,13 +49,11 @@ pub mod FineKept
 pub mod FoldKept
 pub mod Unseen
 pub mod Whole
--- the facts of the steps that a file can make
-pub mod Cut
-pub mod Hands
+-- the steps that a file can make: what a fold leaves makes no others, and the facts are asked of these alone
 pub mod Within
-pub mod CutRuns
 pub mod MakesAt
-pub mod Gives
 pub mod SearchWithin
 pub mod MovesWithin
+pub mod Cut
+pub mod CutRuns
 pub mod Unchanged

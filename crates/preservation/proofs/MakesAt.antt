@@ -1,17 +1,19 @@
 -- What can be made doesn't go by positions: a tree whose root was given another makes the steps and choices that it made.
 use Prim.Native.Nat.{ℕ}
-use mathlib.Core.Bool.{Bool, true, false, _&&_, _||_, not}
+use mathlib.Core.Bool.{_&&_, _||_}
 use mathlib.Core.List.{List, [], _∷_}
 use mathlib.Core.Path.{_≡_, refl, ap, ap₂, _∙_, fun-ext}
 use Rattle.records.specs.Tree.{Node, Tree, Trees, node, none, more}
+use Rattle.records.specs.Place.{root}
 use Rattle.records.specs.declared.layout.NameFacts.{NameFacts}
 use Rattle.walk.specs.Substitute.{at}
-use Rattle.runs.specs.Hand.{static, private, computed, Beside, nothing, bareEval, targetName as aTarget, opaqueTarget, member, Hand}
+use Rattle.runs.specs.Hand.{Beside, Hand}
 use Rattle.runs.specs.Step.{Role, Step}
 use Rattle.runs.specs.Form.{is, cleared, isMarked, isMember, Form, constant, name, targetName, leaf, chain, property, importing, sequence, assignment, stepping, form, childless, choiceOf, originOf}
 use Rattle.runs.specs.Run.{Turn, kept}
-use Rattle.runs.specs.InHand.{isNothing, hasKey, offers, mayGive, mayKeep, valuesOf, inHand}
+use Rattle.runs.specs.InHand.{sameBeside, isNothing, besideOf, keptOf, mayKeep, valuesOf, inHand}
 use Rattle.runs.specs.Makes.{Asked, choice, step, makesOwn, asks, someTurn, sameOrigin, makesHere, makesIn, makesInRow}
+use Rattle.preservation.proofs.Besides.{same-beside}
 use Rattle.preservation.proofs.At.{placedAt, kept-at, role-at}
 
 form-at : (p : ℕ) (n : Node) → form (placedAt p n) ≡ form n
@@ -22,37 +24,36 @@ origin-at : (p : ℕ) (n : Node) (role : Role) → originOf (placedAt p n) role 
 unfolding originOf isMember placedAt
 origin-at p n role = refl
 
--- what a node gives beside its value goes by its kind and label
-pub offers-same : {Value : Type 0} (names : List NameFacts) (n k : Node) (b : Beside Value) → n .kind ≡ k .kind → n .label ≡ k .label → offers names n b ≡ offers names k b
-unfolding offers hasKey
-offers-same names n k nothing e g = refl
-offers-same names n k bareEval e g = rw (e, g)
-offers-same names n k (aTarget a) e g = rw (e, g)
-offers-same names n k (opaqueTarget l) e g = rw (e, g)
-offers-same names n k (member o (static l)) e g = rw (e, g)
-offers-same names n k (member o (private l)) e g = rw (e, g)
-offers-same names n k (member o (computed w)) e g = rw e
+keeps-at : {Value : Type 0} (p : ℕ) (n : Node) (b : Beside Value) → kept (form (placedAt p n)) (placedAt p n) b ≡ kept (form n) n b
+keeps-at p n b = ap (λ f. kept f (placedAt p n) b) (form-at p n) ∙ kept-at p (form n) n b
+
+module _ (names : List NameFacts) (p : ℕ) where
+  first-at : (n : Node) (ts : Trees) → keptOf names (placedAt p n) ts ≡ keptOf names n ts
+  unfolding besideOf
+  first-at n none = refl
+  first-at n (more t ts) = keeps-at p n (besideOf names t)
+
+  beside-node : (n : Node) (ts : Trees) → besideOf names (node (placedAt p n) ts) ≡ besideOf names (node n ts)
+  beside-node n ts = same-beside names (placedAt p n) n ts ts (unfold placedAt in refl) (unfold placedAt in refl) (λ e. cleared-first n ts)
+    where
+      cleared-first : (n : Node) (ts : Trees) → keptOf names (cleared (placedAt p n)) ts ≡ keptOf names (cleared n) ts
+      cleared-first n ts = unfold cleared placedAt in first-at (cleared n) ts
+
+  pub beside-at : (t : Tree) → besideOf names (at p t) ≡ besideOf names t
+  unfolding at placedAt
+  beside-at (node n ts) = beside-node n ts
 
 module _ {Value : Type 0} (names : List NameFacts) (p : ℕ) where
-  keep-at : (n : Node) (ts : Trees) (b : Beside Value) → mayKeep names (placedAt p n) ts b ≡ mayKeep names n ts b
-  unfolding mayGive
-  keep-at n none b = refl
-  keep-at n (more t ts) b = ap (λ k. isNothing b || not (isNothing k) && mayGive names t b) (ap (λ f. kept f (placedAt p n) b) (form-at p n) ∙ kept-at p (form n) n b)
-
-  give-node : (n : Node) (ts : Trees) (b : Beside Value) → mayGive names (node (placedAt p n) ts) b ≡ mayGive names (node n ts) b
-  unfolding mayGive placedAt cleared
-  give-node n ts b = ap₂ (λ x y. x || is 13 n && y) (offers-same names (placedAt p n) n b refl refl) (keep-at (cleared n) ts b)
-
-  pub give-at : (t : Tree) (b : Beside Value) → mayGive names (at p t) b ≡ mayGive names t b
-  unfolding at placedAt
-  give-at (node n ts) b = give-node n ts b
+  keep-at : (n : Node) (t : Tree) (b : Beside Value) → mayKeep names (placedAt p n) t b ≡ mayKeep names n t b
+  unfolding mayKeep
+  keep-at n t b = ap (λ k. sameBeside k b || is 13 (root t) && isNothing b) (keeps-at p n (besideOf names t))
 
   hand-at : (n : Node) (w : Turn) (ts : Trees) (hs : Hand Value) → inHand names (placedAt p n) w ts hs ≡ inHand names n w ts hs
   unfolding inHand
   hand-at n w none [] = refl
   hand-at n w none (h ∷ hs) = refl
   hand-at n w (more t ts) [] = ap childless (form-at p n)
-  hand-at n w (more t ts) (h ∷ hs) = ap (λ b. b && valuesOf w ts hs) (keep-at n (more t ts) (h .beside))
+  hand-at n w (more t ts) (h ∷ hs) = ap (λ b. b && valuesOf w ts hs) (keep-at n t (h .beside))
 
   turn-at : (d : Asked) (n : Node) (ts : Trees) (hs : Hand Value) → someTurn d (choiceOf (form (placedAt p n))) (λ w. inHand names (placedAt p n) w ts hs) ≡ someTurn d (choiceOf (form n)) (λ w. inHand names n w ts hs)
   turn-at d n ts hs = ap₂ (λ f test. someTurn d (choiceOf f) test) (form-at p n) (fun-ext (λ w. hand-at n w ts hs))

@@ -1,10 +1,10 @@
 -- The file can make every step and choice of the programs on the way to its result, and so of the result.
 use Prim.Native.Nat.{ℕ}
-use mathlib.Core.Bool.{Bool, true, false, _&&_, _||_}
+use mathlib.Core.Bool.{Bool, true, _&&_, _||_}
 use mathlib.Core.List.{List, [], _∷_, _++_}
 use mathlib.Core.Path.{_≡_, refl, sym, subst}
 use Rattle.records.specs.Tree.{Tree, none, more}
-use Rattle.records.specs.File.{DeclarationKind, Initializer, bare, given, Declarator, Statement, declaration, expression, File}
+use Rattle.records.specs.File.{DeclarationKind, given, Declarator, Statement, declaration, expression, File}
 use Rattle.records.specs.declared.layout.NameFacts.{NameFacts}
 use Rattle.walk.specs.Context.{contextOf}
 use Rattle.statements.specs.Trace.{Fold}
@@ -16,14 +16,14 @@ use Rattle.runs.specs.Script.{isPattern}
 use Rattle.runs.specs.Facts.{Each}
 use Rattle.runs.specs.InHand.{valuesOf}
 use Rattle.runs.specs.Makes.{Asked, isMarkedStep, sameOrigin, makesIn, makesMarked, makesDeclarator, makesStatement, makes}
-use Rattle.preservation.proofs.Tests.{or-left, or-right, by-or}
+use Rattle.preservation.proofs.Tests.{or-right, by-or}
 use Rattle.preservation.proofs.Places.{Place, declarator, statement, initializer, declaratorsAt, statementsAt}
 use Rattle.preservation.proofs.Moves.{Moves, FoldAt, StopAt, DropAt, done, fold, stop, drop}
 use Rattle.preservation.proofs.Fine.{Accepted, Fine}
 use Rattle.preservation.proofs.Fit.{fit-parts}
 use Rattle.preservation.proofs.FineKept.{fit-here, stop-fine, drop-fine}
-use Rattle.preservation.proofs.FoldKept.{fits-here, eval-here, fold-fine}
-use Rattle.preservation.proofs.Within.{Within, WithinDeclarator, WithinDeclarators, WithinProgram, WithinFold, first-part, other-parts, join-first, none-made, parts, join}
+use Rattle.preservation.proofs.FoldKept.{known-name, fits-here, eval-here, fold-fine}
+use Rattle.preservation.proofs.Within.{Within, WithinDeclarator, declarator-made, WithinDeclarators, WithinProgram, WithinFold, initializer-within, first-part, other-parts, join-first, none-made, parts, join}
 use Rattle.preservation.proofs.SearchWithin.{Placeable, replaced-within, stopped-within}
 
 module _ (Value : Type 0) (f : File) where
@@ -41,10 +41,6 @@ module _ (Value : Type 0) (f : File) where
   same-values t u [] = refl
   same-values t u (h ∷ hs) = refl
 
-  initializer-within : (k : DeclarationKind) (a : ℕ) (t : Tree) → WithinDeclarator Value f k a (given t) → Within Value f value t
-  unfolding makesDeclarator
-  initializer-within k a t h d x e = h d x (or-left _ _ e)
-
   other-initializer : (k : DeclarationKind) (a : ℕ) (t u : Tree) → WithinDeclarator Value f k a (given t) → Within Value f value u → WithinDeclarator Value f k a (given u)
   unfolding makesDeclarator makesMarked
   other-initializer k a t u h g d x e =
@@ -52,9 +48,6 @@ module _ (Value : Type 0) (f : File) where
       (λ q. h d x (or-right (makesIn names d x t value) _ (subst (λ b. ((isUsing k || isPattern a) && (b && isMarkedStep d && sameOrigin (ofDeclarator k a) (x .origin))) ≡ true) (same-values t u (x .hand)) q))) e
 
   -- the statements of a program: a declaration, an expression
-  abbrev declarator-made : DeclarationKind → Asked → Step Value → Declarator → Bool
-  declarator-made k d x e = makesDeclarator names d x k (e .name) (e .initializer)
-
   abbrev statement-made : Asked → Step Value → Statement → Bool
   statement-made d x s = makesStatement names d x s
 
@@ -76,11 +69,11 @@ module _ (Value : Type 0) (f : File) where
 
   -- The tree in a place, and another there.
   first-tree : (k : DeclarationKind) (d : Declarator) (ds : List Declarator) (t : Tree) → WithinDeclarators Value f k (withTree d t ∷ ds) → Within Value f value t
-  first-tree k d ds t h = initializer-within k (d .name) t (first-part Value f (declarator-made k) (withTree d t) ds h)
+  first-tree k d ds t h = initializer-within Value f k (d .name) t (first-part Value f (declarator-made Value f k) (withTree d t) ds h)
 
   other-tree : (k : DeclarationKind) (d : Declarator) (ds : List Declarator) (t u : Tree) → WithinDeclarators Value f k (withTree d t ∷ ds) → Within Value f value u → WithinDeclarators Value f k (withTree d u ∷ ds)
   other-tree k d ds t u h g =
-      join-first Value f (declarator-made k) (withTree d u) ds (other-initializer k (d .name) t u (first-part Value f (declarator-made k) (withTree d t) ds h) g) (other-parts Value f (declarator-made k) (withTree d t) ds h)
+      join-first Value f (declarator-made Value f k) (withTree d u) ds (other-initializer k (d .name) t u (first-part Value f (declarator-made Value f k) (withTree d t) ds h) g) (other-parts Value f (declarator-made Value f k) (withTree d t) ds h)
 
   abbrev AtPlace : DeclarationKind → Place → Tree → List Statement → Type 0
   AtPlace k p t after = WithinDeclarators Value f k (declaratorsAt p t) × WithinProgram Value f (statementsAt p t after)
@@ -104,11 +97,11 @@ module _ (Value : Type 0) (f : File) where
   site-parts before k ds es after h =
       let (a, b) = parts Value f statement-made before (declaration k (ds ++ es) ∷ after) h in
       let (c, d) = first-declaration k (ds ++ es) after b in
-      let (x, y) = parts Value f (declarator-made k) ds es c in
+      let (x, y) = parts Value f (declarator-made Value f k) ds es c in
       (a, x, y, d)
 
   site-join : (before : List Statement) (k : DeclarationKind) (ds es : List Declarator) (after : List Statement) → WithinProgram Value f before → WithinDeclarators Value f k ds → WithinDeclarators Value f k es → WithinProgram Value f after → WithinProgram Value f (before ++ (declaration k (ds ++ es) ∷ after))
-  site-join before k ds es after a b c d = join Value f statement-made before (declaration k (ds ++ es) ∷ after) a (join-declaration k (ds ++ es) after (join Value f (declarator-made k) ds es b c) d)
+  site-join before k ds es after a b c d = join Value f statement-made before (declaration k (ds ++ es) ∷ after) a (join-declaration k (ds ++ es) after (join Value f (declarator-made Value f k) ds es b c) d)
 
   stop-within : (P Q : List Statement) → StopAt (contextOf f) P Q → Fine f P → WithinProgram Value f P → WithinProgram Value f Q
   stop-within P Q move fine h =
@@ -128,11 +121,11 @@ module _ (Value : Type 0) (f : File) where
       let p : Place = move .place in
       let d₀ : Declarator = record { name = φ .name; initializer = given (φ .initializer) } in
       let (a, b, e, d) = site-parts (move .before) (move .kind) (move .earlier) (d₀ ∷ declaratorsAt p (φ .into)) (statementsAt p (φ .into) (move .after)) (subst (λ X. WithinProgram Value f X) (move .from) h) in
-      let r : Within Value f value (φ .initializer) = initializer-within (move .kind) (φ .name) (φ .initializer) (first-part Value f (declarator-made (move .kind)) d₀ (declaratorsAt p (φ .into)) e) in
-      let c : WithinDeclarators Value f (move .kind) (declaratorsAt p (φ .into)) = other-parts Value f (declarator-made (move .kind)) d₀ (declaratorsAt p (φ .into)) e in
+      let r : Within Value f value (φ .initializer) = initializer-within Value f (move .kind) (φ .name) (φ .initializer) (first-part Value f (declarator-made Value f (move .kind)) d₀ (declaratorsAt p (φ .into)) e) in
+      let c : WithinDeclarators Value f (move .kind) (declaratorsAt p (φ .into)) = other-parts Value f (declarator-made Value f (move .kind)) d₀ (declaratorsAt p (φ .into)) e in
       let old : Within Value f value (φ .into) = place-tree (move .kind) p (φ .into) (move .after) (c, d) in
       let fits = fits-here f P Q φ move accepted fine in
-      let placeable : Placeable Value f (φ .name) (φ .initializer) = record { steps = r; expression = fit-parts names (φ .initializer) (fits .1) .2; standing = fit-parts names (φ .initializer) (fits .1) .0; plain = eval-here f P Q φ move accepted fine } in
+      let placeable : Placeable Value f (φ .name) (φ .initializer) = record { steps = r; expression = fit-parts names (φ .initializer) (fits .1) .2; standing = fit-parts names (φ .initializer) (fits .1) .0; plain = eval-here f P Q φ move accepted fine; other = known-name f P Q φ move accepted fine .1 } in
       let new = replaced-within Value f (φ .name) (φ .initializer) (contextOf f) (φ .into) (move .tree) (fit-parts names (φ .into) (fits .0) .0) (move .placed) placeable old in
       let (x, y) = place-other (move .kind) p (φ .into) (move .tree) (move .after) (c, d) new in (
         (subst (λ X. WithinProgram Value f X) (sym (move .stood)) (join Value f statement-made (move .before) (declaration (move .kind) (move .earlier) ∷ []) a (join-declaration (move .kind) (move .earlier) [] b (none-made Value f statement-made))), r, old),

@@ -3,6 +3,8 @@ use Prim.Native.Nat.{ℕ}
 use mathlib.Core.Bool.{Bool, true, false, cond, _&&_, _||_, not}
 use mathlib.Core.List.{List, [], _∷_}
 use mathlib.Core.Path.{_≡_, refl, sym, ap, _∙_, subst}
+use lib.Dec.{eqb}
+use borrow.Author.Tests.{eqb-true}
 use Rattle.records.specs.Flags.{isEval}
 use Rattle.records.specs.Script.{flagsOf}
 use Rattle.records.specs.Tree.{Node, Tree, Trees, node, none, more}
@@ -11,27 +13,32 @@ use Rattle.records.specs.File.{given, File}
 use Rattle.records.specs.declared.layout.NameFacts.{NameFacts}
 use Rattle.records.proofs.Tests.{clash, both}
 use Rattle.walk.specs.Context.{Context}
-use Rattle.walk.specs.Shape.{shape, isMemberExpression, cleared as walked}
+use Rattle.walk.specs.Shape.{shape, cleared as walked}
 use Rattle.walk.specs.Substitute.{Answer, replaced, stopped, passed, Plan, all, first, nothing as none-at-all, value as behind, test, branches, tag, next, at, preserveIndirectAccess, asTag, inOrder, inBranches, byPlan, ofNode, isSpecificId, isMemberTag, plan, mayPass, substituteInExpression, substituteInChildren}
-use Rattle.runs.specs.Hand.{Beside, nothing, bareEval, targetName as aTarget, opaqueTarget, member, Hand}
+use Rattle.runs.specs.Hand.{Beside, nothing, Hand}
 use Rattle.runs.specs.Step.{Role, value, Step}
-use Rattle.runs.specs.Form.{is, cleared, form, isChain, choiceOf, firstRole, originOf}
+use Rattle.runs.specs.Form.{is, cleared, chain, form, order, isChain, choiceOf, firstRole, originOf}
 use Rattle.runs.specs.Run.{Turn, takes, then, kept}
 use Rattle.runs.specs.Shapes.{evalWhole}
-use Rattle.runs.specs.InHand.{isNothing, offers, mayGive, mayKeep, valuesOf, inHand}
+use Rattle.runs.specs.InHand.{sort, sameBeside, isNothing, besideOf, keptOf, mayKeep, valuesOf, inHand}
 use Rattle.runs.specs.Makes.{Asked, choice, step, isChoice, makesOwn, asks, someTurn, sameOrigin, makesHere, makesIn, makesInRow, makes}
-use Rattle.preservation.proofs.Tests.{and-on, by-or, or-left, or-right}
+use Rattle.preservation.proofs.Tests.{and-then, and-on, by-or, or-left}
 use Rattle.preservation.proofs.Tables.{walked-cleared, cleared-once, form-shape, shape-kinds}
 use Rattle.preservation.proofs.Kept.{under, in-row}
-use Rattle.preservation.proofs.Bare.{expression-not}
+use Rattle.preservation.proofs.Uses.{specific}
+use Rattle.preservation.proofs.Bare.{gives-nothing}
 use Rattle.preservation.proofs.Entering.{Entering, Enters, kept-value, value-of-all, plan-enters}
-use Rattle.preservation.proofs.MakesAt.{offers-same, give-at, makes-at}
-use Rattle.preservation.proofs.Gives.{has-key, gives-eval, gives-target, gives-opaque, gives-member}
+use Rattle.preservation.proofs.MakesAt.{beside-at, makes-at}
+use Rattle.preservation.proofs.Besides.{same-sort, nothing-sort, same-nothing, same-beside}
 use Rattle.preservation.proofs.Hands.{turn-on}
 use Rattle.preservation.proofs.Within.{Within, WithinRow, node-children, row-first, row-others, row-join}
 
 same-cleared : (n : Node) → cleared (walked n) ≡ cleared n
 same-cleared n = ap cleared (walked-cleared n) ∙ cleared-once n
+
+chain-form : (n : Node) → is 13 n ≡ true → form (cleared n) ≡ chain
+unfolding form cleared
+chain-form n e = rw (eqb-true (n .kind) 13 e)
 
 -- a child that is the name is evaluated for its value
 value-first : (v : ℕ) (r : Tree) (n : Node) (t : Tree) → Entering v r (form n) n t → isSpecificId v (root t) ≡ true → (role : Role) → firstRole (form n) n role ≡ value
@@ -41,16 +48,23 @@ module _ (Value : Type 0) (f : File) (v : ℕ) (r : Tree) where
   abbrev names : List NameFacts
   names = f .names
 
-  -- what is asked of an initializer that is placed
+  -- a node that keeps nothing of what r gives beside its value
+  abbrev KeepsNone : Node → Type 0
+  KeepsNone n = kept (form n) n (besideOf names r) ≡ nothing
+
+  -- what is asked of an initializer that is placed, and of the name
   pub record Placeable : Type 0 where
     pub steps : Within Value f value r
     pub expression : isExpression (root r .kind) ≡ true
     pub standing : placed r ≡ true
     pub plain : evalWhole names (given r) ≡ false
+    pub other : isEval (flagsOf names v) ≡ false
 
-  -- A tree and what a search leaves of it.
+  -- A tree and what a search leaves of it. Where the tree isn't the name, it gives the same beside its value; and where a node
+  -- keeps nothing of what r gives, it has no more in hand of what is left than of the tree.
   record Follows (t t′ : Tree) : Type 0 where
-    gives : (b : Beside Value) → mayGive names t′ b ≡ true → (mayGive names t b || isSpecificId v (root t) && mayGive names r b) ≡ true
+    same : isSpecificId v (root t) ≡ false → besideOf names t′ ≡ besideOf names t
+    keep : (n : Node) → (isSpecificId v (root t) ≡ true → KeepsNone n) → (b : Beside Value) → mayKeep names n t′ b ≡ true → mayKeep names n t b ≡ true
     within : (role : Role) → (isSpecificId v (root t) ≡ true → role ≡ value) → Within Value f role t → Within Value f role t′
 
   -- a row of children behind the first
@@ -60,7 +74,7 @@ module _ (Value : Type 0) (f : File) (v : ℕ) (r : Tree) where
 
   -- the children of a node
   record FollowsChildren (n : Node) (ts ts′ : Trees) : Type 0 where
-    keep : (b : Beside Value) → mayKeep names n ts′ b ≡ true → mayKeep names n ts b ≡ true
+    first-same : isChain (form n) ≡ true → keptOf names n ts′ ≡ keptOf names n ts
     hand : (w : Turn) (hs : Hand Value) → inHand names n w ts′ hs ≡ true → inHand names n w ts hs ≡ true
     within : (role : Role) → WithinRow Value f (firstRole (form n) n role) ts → WithinRow Value f (firstRole (form n) n role) ts′
 
@@ -104,7 +118,7 @@ module _ (Value : Type 0) (f : File) (v : ℕ) (r : Tree) where
   }
 
   tree-same : (t : Tree) → Follows t t
-  tree-same t = record { gives = λ b e. or-left (mayGive names t b) _ e; within = λ role g h. h }
+  tree-same t = record { same = λ e. refl; keep = λ n k b e. e; within = λ role g h. h }
 
   row-same : (ts : Trees) → FollowsRow ts ts
   row-same ts = record { values = λ w hs e. e; within = λ h. h }
@@ -131,58 +145,70 @@ module _ (Value : Type 0) (f : File) (v : ℕ) (r : Tree) where
   row-plan branches t ts a b x y = row-order t ts a b x y
   row-plan tag t ts a b x y = row-order t ts a b x y
 
-  -- The first child of a node, where this keeps no more of what takes its place than of the child.
-  abbrev Keeps-no-more : Node → Tree → Type 0
-  Keeps-no-more n t = (b : Beside Value) → isSpecificId v (root t) ≡ true → mayGive names r b ≡ true → not (isNothing (kept (form n) n b)) ≡ true → isNothing b ≡ true
-
-  child-keep : (n : Node) (t t′ : Tree) (ts us : Trees) → Keeps-no-more n t → Follows t t′ → (b : Beside Value) → mayKeep names n (more t′ us) b ≡ true → mayKeep names n (more t ts) b ≡ true
-  unfolding mayGive
-  child-keep n t t′ ts us k h b e =
-      by-or (isNothing b) (not (isNothing (kept (form n) n b)) && mayGive names t′ b) (λ q. or-left (isNothing b) _ q)
-      (λ q. let (x, y) = both (not (isNothing (kept (form n) n b))) (mayGive names t′ b) q in
-      by-or (mayGive names t b) (isSpecificId v (root t) && mayGive names r b) (λ z. or-right (isNothing b) _ (rw (x, z)))
-      (λ z. let (g, i) = both (isSpecificId v (root t)) (mayGive names r b) z in or-left (isNothing b) _ (k b g i x)) (h .gives b y)) e
-
-  hand-both : (n : Node) (t t′ : Tree) (ts ts′ : Trees) → ((b : Beside Value) → mayKeep names n (more t′ ts′) b ≡ true → mayKeep names n (more t ts) b ≡ true) → ((w : Turn) (hs : Hand Value) → valuesOf w ts′ hs ≡ true → valuesOf w ts hs ≡ true)
+  -- The first child of a node.
+  hand-both : (n : Node) (t t′ : Tree) (ts ts′ : Trees) → ((b : Beside Value) → mayKeep names n t′ b ≡ true → mayKeep names n t b ≡ true) → ((w : Turn) (hs : Hand Value) → valuesOf w ts′ hs ≡ true → valuesOf w ts hs ≡ true)
       → (w : Turn) (hs : Hand Value) → inHand names n w (more t′ ts′) hs ≡ true → inHand names n w (more t ts) hs ≡ true
   unfolding inHand
   hand-both n t t′ ts ts′ k h w [] e = e
-  hand-both n t t′ ts ts′ k h w (x ∷ hs) e = let (a, b) = both (mayKeep names n (more t′ ts′) (x .beside)) (valuesOf w ts′ hs) e in rw (k (x .beside) a, h w hs b)
+  hand-both n t t′ ts ts′ k h w (x ∷ hs) e = let (a, b) = both (mayKeep names n t′ (x .beside)) (valuesOf w ts′ hs) e in rw (k (x .beside) a, h w hs b)
 
-  child-first : (n : Node) (t t′ : Tree) (ts : Trees) → Keeps-no-more n t → (isSpecificId v (root t) ≡ true → (role : Role) → firstRole (form n) n role ≡ value) → Follows t t′ → FollowsChildren n (more t ts) (more t′ ts)
-  child-first n t t′ ts k g h = record {
-    keep = λ b e. child-keep n t t′ ts ts k h b e;
-    hand = hand-both n t t′ ts ts (λ b q. child-keep n t t′ ts ts k h b q) (λ w hs q. q);
-    within = λ role w. row-join Value f t′ ts (firstRole (form n) n role) (h .within (firstRole (form n) n role) (λ e. g e role) (row-first Value f t ts (firstRole (form n) n role) w)) (row-others Value f t ts (firstRole (form n) n role) w);
+  same-first : (n : Node) (t t′ : Tree) (ts ts′ : Trees) → besideOf names t′ ≡ besideOf names t → keptOf names n (more t′ ts′) ≡ keptOf names n (more t ts)
+  unfolding besideOf
+  same-first n t t′ ts ts′ e = ap (kept (form n) n) e
+
+  child-first : (n : Node) (t t′ : Tree) (ts : Trees) → (isSpecificId v (root t) ≡ true → KeepsNone n) → Entering v r (form n) n t → Follows t t′ → FollowsChildren n (more t ts) (more t′ ts)
+  child-first n t t′ ts k e h = record {
+    first-same = λ q. same-first n t t′ ts ts (h .same (unnamed q));
+    hand = hand-both n t t′ ts ts (λ b q. h .keep n k b q) (λ w hs q. q);
+    within = λ role w. row-join Value f t′ ts (firstRole (form n) n role) (h .within (firstRole (form n) n role) (λ g. value-first v r n t e g role) (row-first Value f t ts (firstRole (form n) n role) w)) (row-others Value f t ts (firstRole (form n) n role) w);
   }
+    where
+      unnamed : isChain (form n) ≡ true → isSpecificId v (root t) ≡ false
+      unnamed q = and-then (isChain (form n)) (isSpecificId v (root t)) q (e .unchained)
 
   child-rest : (n : Node) (t : Tree) (ts ts′ : Trees) → FollowsRow ts ts′ → FollowsChildren n (more t ts) (more t ts′)
-  unfolding mayGive
   child-rest n t ts ts′ h = record {
-    keep = λ b e. e;
+    first-same = λ q. same-first n t t ts ts′ refl;
     hand = hand-both n t t ts ts′ (λ b q. q) (h .values);
     within = λ role w. row-join Value f t ts′ (firstRole (form n) n role) (row-first Value f t ts (firstRole (form n) n role) w) (h .within (row-others Value f t ts (firstRole (form n) n role) w));
   }
 
-  -- what r gives beside its value is a member, and that isn't kept
-  keeps-value : (n : Node) (t : Tree) → Placeable → Entering v r (form n) n t → Keeps-no-more n t
-  unfolding isNothing evalWhole
-  keeps-value n t p e nothing g h q = refl
-  keeps-value n t p e bareEval g h q = clash (is 4 (root r) && isEval (flagsOf names (root r .label))) (p .plain) (gives-eval Value names r h)
-  keeps-value n t p e (aTarget a) g h q = clash (is 29 (root r)) (expression-not (root r .kind) 29 (p .expression) refl refl) (gives-target Value names r a h)
-  keeps-value n t p e (opaqueTarget l) g h q = clash (is 30 (root r)) (expression-not (root r .kind) 30 (p .expression) refl refl) (gives-opaque Value names r l h)
-  keeps-value n t p e (member o k) g h q = clash false refl (rw (kept-value v r (form n) n t e g (gives-member Value names r o k (p .standing) h) (member o k)) at q)
+  -- r gives nothing or a member beside its value, and that isn't kept
+  keeps-by : (b : Bool) (n : Node) (t : Tree) → isMemberTag r ≡ b → Placeable → Entering v r (form n) n t → isSpecificId v (root t) ≡ true → KeepsNone n
+  keeps-by true n t q p e g = kept-value v r (form n) n t e g q (besideOf names r)
+  keeps-by false n t q p e g = ap (kept (form n) n) (gives-nothing names r (p .standing) (p .expression) (unfold evalWhole in p .plain) q) ∙ (unfold kept in refl)
+
+  keeps-none : (n : Node) (t : Tree) → Placeable → Entering v r (form n) n t → isSpecificId v (root t) ≡ true → KeepsNone n
+  keeps-none n t p e g = keeps-by (isMemberTag r) n t refl p e g
 
   first-order : (n : Node) (t : Tree) (ts : Trees) (a : Answer Tree) (b : Answer Trees) → Entering v r (form n) n t → Follow t a → Answered FollowsRow ts b → Answered (FollowsChildren n) (more t ts) (inOrder t ts a b)
   first-order n t ts a b e x y =
-      in-order (FollowsChildren n) t ts (λ t′ p h. child-first n t t′ ts (keeps-value n t p e) (λ g. value-first v r n t e g) h)
-      (λ t′ s h. child-first n t t′ ts (λ b g. clash (isSpecificId v (root t)) s g) (λ g. clash (isSpecificId v (root t)) s g) h) (λ ts′ h. child-rest n t ts ts′ h) a b x y
+      in-order (FollowsChildren n) t ts (λ t′ p h. child-first n t t′ ts (λ g. keeps-none n t p e g) e h)
+      (λ t′ s h. child-first n t t′ ts (λ g. clash (isSpecificId v (root t)) s g) e h) (λ ts′ h. child-rest n t ts ts′ h) a b x y
 
   rest-order : (n : Node) (t : Tree) (ts : Trees) (b : Answer Trees) → Answered FollowsRow ts b → Answered (FollowsChildren n) (more t ts) (inOrder t ts passed b)
   unfolding inOrder
   rest-order n t ts (replaced ts′) y = λ p. child-rest n t ts ts′ (y p)
   rest-order n t ts (stopped ts′) y = child-rest n t ts ts′ y
   rest-order n t ts passed y = tt
+
+  -- The name gives nothing beside its value.
+  kept-nothing : (n : Node) → kept {Value = Unit {0}} (form n) n nothing ≡ nothing
+  unfolding kept
+  kept-nothing n = refl
+
+  name-beside : (n : Node) (ts : Trees) → isSpecificId v n ≡ true → isEval (flagsOf names v) ≡ false → besideOf names (node n ts) ≡ nothing
+  unfolding besideOf
+  name-beside n ts e g = let (k, l) = specific v n e in rw (k, l, g)
+
+  name-keep : (n : Node) (t : Tree) (b : Beside Value) → isSpecificId v (root t) ≡ true → isEval (flagsOf names v) ≡ false → isNothing b ≡ true → mayKeep names n t b ≡ true
+  unfolding mayKeep
+  name-keep n (node k ts) b e g h = or-left _ _ (same-sort (kept (form n) n (besideOf names (node k ts))) b (ap sort (ap (kept (form n) n) (name-beside k ts e g) ∙ kept-nothing n) ∙ sym (nothing-sort b h ∙ (unfold sort in refl))))
+
+  -- what is kept of a tree that gives nothing to keep is nothing
+  keep-nothing : (n : Node) (t : Tree) (b : Beside Value) → kept (form n) n (besideOf names t) ≡ nothing → mayKeep names n t b ≡ true → isNothing b ≡ true
+  unfolding mayKeep
+  keep-nothing n t b e h = by-or (sameBeside (kept (form n) n (besideOf names t)) b) (is 13 (root t) && isNothing b) (λ q. same-nothing (kept (form n) n (besideOf names t)) b e q) (λ q. both (is 13 (root t)) (isNothing b) q .1) h
 
   -- A tag in whose place the initializer stays indirect.
   still-here : (d : Asked) (x : Step Value) (n : Node) (role : Role) (ts : Trees) → asks d names (form n) n role ≡ false → makesHere names d x n role ts ≡ false
@@ -219,25 +245,18 @@ module _ (Value : Type 0) (f : File) (v : ℕ) (r : Tree) where
       aside-by : (role : Role) → makesIn names d x (node (pair (n .position)) (more (node (one (n .position)) none) (more (node n ts) none))) role ≡ (makesIn names d x (node n ts) value || false)
       aside-by role = unfold makesIn in (rw (still-here d x (cleared (pair (n .position))) role (more (node (one (n .position)) none) (more (node n ts) none)) (quiet d (n .position) role .1)) (aside-row d x (n .position) (node n ts) _))
 
-  aside-gives : (t : Tree) (b : Beside Value) → mayGive names (preserveIndirectAccess t) b ≡ true → isNothing b ≡ true
-  unfolding preserveIndirectAccess mayGive offers isNothing
-  aside-gives (node n ts) nothing e = refl
-  aside-gives (node n ts) bareEval e = clash false refl e
-  aside-gives (node n ts) (aTarget a) e = clash false refl e
-  aside-gives (node n ts) (opaqueTarget l) e = clash false refl e
-  aside-gives (node n ts) (member o k) e = clash false refl (has-key (pair (n .position)) k (or-none _ e))
+  aside-beside : (t : Tree) → besideOf names (preserveIndirectAccess t) ≡ nothing
+  unfolding preserveIndirectAccess besideOf
+  aside-beside (node n ts) = refl
 
-  aside-keep : (n : Node) (t t′ : Tree) (ts us : Trees) (b : Beside Value) → mayKeep names n (more (preserveIndirectAccess t′) us) b ≡ true → mayKeep names n (more t ts) b ≡ true
-  unfolding mayGive
-  aside-keep n t t′ ts us b e =
-      or-left (isNothing b) _
-      (by-or (isNothing b) (not (isNothing (kept (form n) n b)) && mayGive names (preserveIndirectAccess t′) b) (λ q. q)
-      (λ q. aside-gives t′ b (both (not (isNothing (kept (form n) n b))) (mayGive names (preserveIndirectAccess t′) b) q .1)) e)
+  aside-kind : (t : Tree) → is 13 (root (preserveIndirectAccess t)) ≡ false
+  unfolding preserveIndirectAccess
+  aside-kind (node n ts) = refl
 
-  child-aside : (n : Node) (t t′ : Tree) (ts : Trees) → ((role : Role) → firstRole (form n) n role ≡ value) → Follows t t′ → FollowsChildren n (more t ts) (more (preserveIndirectAccess t′) ts)
-  child-aside n t t′ ts g h = record {
-    keep = λ b e. aside-keep n t t′ ts ts b e;
-    hand = hand-both n t (preserveIndirectAccess t′) ts ts (λ b e. aside-keep n t t′ ts ts b e) (λ w hs e. e);
+  child-aside : (n : Node) (t t′ : Tree) (ts : Trees) → isSpecificId v (root t) ≡ true → Placeable → isChain (form n) ≡ false → ((role : Role) → firstRole (form n) n role ≡ value) → Follows t t′ → FollowsChildren n (more t ts) (more (preserveIndirectAccess t′) ts)
+  child-aside n t t′ ts e p c g h = record {
+    first-same = λ q. clash (isChain (form n)) c q;
+    hand = hand-both n t (preserveIndirectAccess t′) ts ts (λ b q. name-keep n t b e (p .other) (keep-nothing n (preserveIndirectAccess t′) b (ap (kept (form n) n) (aside-beside t′) ∙ kept-nothing n) q)) (λ w hs e. e);
     within = λ role w.
         row-join Value f (preserveIndirectAccess t′) ts (firstRole (form n) n role)
         (aside-within t′ (firstRole (form n) n role) (h .within value (λ e. refl) (subst (λ (ρ : Role). Within Value f ρ t) (g role) (row-first Value f t ts (firstRole (form n) n role) w))))
@@ -246,7 +265,7 @@ module _ (Value : Type 0) (f : File) (v : ℕ) (r : Tree) where
 
   tag-order : (n : Node) (t : Tree) (ts : Trees) (a : Answer Tree) (b : Answer Trees) → Enters v r tag (form n) n t → Follow t a → Answered FollowsRow ts b → Answered (FollowsChildren n) (more t ts) (inOrder t ts (asTag a) b)
   unfolding asTag inOrder
-  tag-order n t ts (replaced t′) b (e, g, h, k) x y = λ p. child-aside n t t′ ts (value-of-all (form n) n h g k) (x p)
+  tag-order n t ts (replaced t′) b (e, g, h, k) x y = λ p. child-aside n t t′ ts e p k (value-of-all (form n) n h g k) (x p)
   tag-order n t ts (stopped t′) b (e, g, h, k) x y = clash (isSpecificId v (root t)) (x .0) e
   tag-order n t ts passed b (e, g, h, k) x y = rest-order n t ts b y
 
@@ -266,13 +285,15 @@ module _ (Value : Type 0) (f : File) (v : ℕ) (r : Tree) where
   unfolding walked
   walked-root n = (refl, refl)
 
-  node-gives : (n : Node) (ts ts′ : Trees) → FollowsChildren (cleared n) ts ts′ → (b : Beside Value) → mayGive names (node (walked n) ts′) b ≡ true → mayGive names (node n ts) b ≡ true
-  unfolding mayGive
-  node-gives n ts ts′ h b e =
-      by-or (offers names (walked n) b) (is 13 (walked n) && mayKeep names (cleared (walked n)) ts′ b)
-      (λ q. or-left (offers names n b) _ (sym (offers-same names (walked n) n b (walked-root n .0) (walked-root n .1)) ∙ q))
-      (λ q. let (x, y) = both (is 13 (walked n)) (mayKeep names (cleared (walked n)) ts′ b) q in
-      or-right (offers names n b) _ (rw (rw (walked-root n .0) at x, h .keep b (subst (λ c. mayKeep names c ts′ b ≡ true) (same-cleared n) y)))) e
+  node-same : (n : Node) (ts ts′ : Trees) → FollowsChildren (cleared n) ts ts′ → besideOf names (node (walked n) ts′) ≡ besideOf names (node n ts)
+  node-same n ts ts′ h = same-beside names (walked n) n ts′ ts (walked-root n .0) (walked-root n .1) (λ e. ap (λ c. keptOf names c ts′) (same-cleared n) ∙ h .first-same (chained n e))
+    where
+      chained : (n : Node) → is 13 n ≡ true → isChain (form (cleared n)) ≡ true
+      chained n e = rw (chain-form n e) (unfold isChain order in refl)
+
+  node-keep : (n : Node) (ts ts′ : Trees) (k : Node) (b : Beside Value) → FollowsChildren (cleared n) ts ts′ → mayKeep names k (node (walked n) ts′) b ≡ true → mayKeep names k (node n ts) b ≡ true
+  unfolding mayKeep
+  node-keep n ts ts′ k b h e = subst (λ (x : ℕ). (sameBeside (kept (form k) k (besideOf names (node n ts))) b || eqb x 13 && isNothing b) ≡ true) (walked-root n .0) (subst (λ (c : Beside (Unit {0})). (sameBeside (kept (form k) k c) b || is 13 (walked n) && isNothing b) ≡ true) (node-same n ts ts′ h) e)
 
   node-within : (n : Node) (ts ts′ : Trees) → FollowsChildren (cleared n) ts ts′ → (role : Role) → Within Value f role (node n ts) → (d : Asked) (x : Step Value) → (makesHere names d x (cleared n) role ts′ || makesInRow names d x ts′ (firstRole (form (cleared n)) (cleared n) role)) ≡ true → makes d f x ≡ true
   node-within n ts ts′ h role g d x e =
@@ -291,7 +312,8 @@ module _ (Value : Type 0) (f : File) (v : ℕ) (r : Tree) where
 
   node-follows : (n : Node) (ts ts′ : Trees) → FollowsChildren (cleared n) ts ts′ → Follows (node n ts) (node (walked n) ts′)
   node-follows n ts ts′ h = record {
-    gives = λ b e. or-left (mayGive names (node n ts) b) _ (node-gives n ts ts′ h b e);
+    same = λ e. node-same n ts ts′ h;
+    keep = λ k z b e. node-keep n ts ts′ k b h e;
     within = λ role s g d x e. node-within n ts ts′ h role g d x (subst (λ c. (makesHere names d x c role ts′ || makesInRow names d x ts′ (firstRole (form c) c role)) ≡ true) (same-cleared n) (unfold makesIn in e));
   }
 
@@ -305,7 +327,8 @@ module _ (Value : Type 0) (f : File) (v : ℕ) (r : Tree) where
   -- the name itself
   at-name : (n : Node) (ts : Trees) → isSpecificId v n ≡ true → Placeable → Follows (node n ts) (at (n .position) r)
   at-name n ts e p = record {
-    gives = λ b g. or-right (mayGive names (node n ts) b) _ (rw (e, sym (give-at names (n .position) r b) ∙ g));
+    same = λ q. clash (isSpecificId v n) q e;
+    keep = λ k z b g. name-keep k (node n ts) b e (p .other) (keep-nothing k (at (n .position) r) b (ap (kept (form k) k) (beside-at names (n .position) r) ∙ z e) g);
     within = λ role s g. subst (λ (ρ : Role). Within Value f ρ (at (n .position) r)) (sym (s e)) (λ d x q. p .steps d x (sym (makes-at names (n .position) d x r value) ∙ q));
   }
 

@@ -5,26 +5,25 @@ use mathlib.Core.Bool.{Bool, true, false, cond, _&&_, _||_, not}
 use mathlib.Core.List.{List, []}
 use mathlib.Core.Path.{_≡_, refl, sym, ap, _∙_, subst, fun-ext}
 use lib.Dec.{eqb}
-use borrow.Author.Tests.{eqb-true, le-leb, not-true, eq-eqb}
+use borrow.Author.Tests.{eqb-true, le-leb, eq-eqb}
 use Rattle.records.specs.Flags.{marked, computed}
-use Rattle.records.specs.Node.{isLink}
 use Rattle.records.specs.Tree.{Node, Tree, Trees, node, none, more, count}
 use Rattle.records.specs.File.{firstTree}
-use Rattle.records.specs.Place.{root, mayStand, mayBeLoose, loose, standUnder, placed, allPlaced}
+use Rattle.records.specs.Place.{root, mayBeLoose, loose, standUnder, placed, allPlaced}
 use Rattle.records.specs.Count.{usesIn}
 use Rattle.records.specs.declared.layout.NameFacts.{NameFacts}
 use Rattle.records.proofs.Tests.{clash, both, neither}
 use Rattle.walk.specs.Context.{Context, contextOf}
 use Rattle.walk.specs.Effect.{hasEffect, mayHaveSideEffects, anyHasSideEffects}
 use Rattle.walk.specs.Target.{mayDependOnSideEffect}
-use Rattle.walk.specs.Shape.{isMemberExpression, Choice as Way, never as always, skips, cuts, picks, Shape, constant as literal, identifier, targetName as aim, leaf as lone, chain as links, import, delete, sequence as row, property as pair, stopping, assignment as assigning, steps, shape}
+use Rattle.walk.specs.Shape.{Choice as Way, never as always, skips, cuts, picks, Shape, constant as literal, identifier, targetName as aim, leaf as lone, chain as links, import, delete, sequence as row, property as pair, stopping, assignment as assigning, steps, shape}
 use Rattle.walk.specs.Substitute.{Answer, replaced, passed, Plan, all as every, first as leading, nothing as none-at-all, value as behind, test, tag, next, at, preserveIndirectAccess, isSpecificId, keepsCallee, isMemberTag, keepsIndirect, stopsAtTarget, planFor, plan, mayPass, substituteInExpression, substituteInChildren}
-use Rattle.runs.specs.Hand.{Beside, nothing, bareEval, targetName as aTarget, opaqueTarget, member, Given, only, lastOr}
+use Rattle.runs.specs.Hand.{Given, only, lastOr}
 use Rattle.runs.specs.Step.{value, target}
 use Rattle.runs.specs.Form.{is, cleared, isDelete, Form, chain, property, importing, sequence, assignment, stepping, never, logical, conditional, optionally, form, order, childless, isName, isChain, isPlain, isAssignment, choiceOf, firstRole}
 use Rattle.runs.specs.State.{State, Out, gave, cut, stop, bind}
 use Rattle.runs.specs.Run.{Turn, all, skipped, second, third, takes, then, kept, gathered, chosen, inTurn, goesOn, own, beside, finished, runNode, run, runChildren}
-use Rattle.preservation.proofs.Tests.{by-or, and-off, same-cond, and-mid}
+use Rattle.preservation.proofs.Tests.{and-then}
 use Rattle.preservation.proofs.Tables.{choosing, formOf, shapeKinds, shape-kinds}
 use Rattle.preservation.proofs.Ends.{cuts, ends-any}
 use Rattle.preservation.proofs.Uses.{reads, allReads, targets, allTargets, off-target, specific}
@@ -262,13 +261,9 @@ module _ {Value Rest : Type 0} (σ : Setting Value Rest) where
   name-or n ts true a e g = at-name σ n ts e
   name-or n ts false a e g = g refl
 
-  other-by : (x y : Bool) → (x && y) ≡ false → x ≡ true → y ≡ false
-  other-by true y e g = e
-  other-by false y e g = clash false refl g
-
   other : (n : Node) (ts : Trees) → isSpecificId v n ≡ false → targets v (node n ts) ≡ 0 → Other σ (cleared n)
   unfolding isSpecificId cleared
-  other n ts e h = ((λ q. other-by (is 4 n) (eqb (n .label) v) e q), off-target v n ts h)
+  other n ts e h = ((λ q. and-then (is 4 n) (eqb (n .label) v) q e), off-target v n ts h)
 
   nil-why : {s : S} (f : Form) (n : Node) → Why s (runChildren names m none f n value)
   unfolding run

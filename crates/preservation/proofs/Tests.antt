@@ -13,6 +13,10 @@ pub and-off : (x y : Bool) → y ≡ false → (x && y) ≡ false
 and-off true y e = e
 and-off false y e = refl
 
+pub and-then : (x y : Bool) → x ≡ true → (x && y) ≡ false → y ≡ false
+and-then true y e g = g
+and-then false y e g = cc
+
 pub and-on : (x y : Bool) → y ≡ true → (x && y) ≡ false → x ≡ false
 and-on true y g e = sym g ∙ e
 and-on false y g e = refl

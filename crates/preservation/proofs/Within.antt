@@ -1,19 +1,18 @@
 -- Trees and programs each of whose steps and choices the file can make.
 use Prim.Native.Nat.{ℕ}
-use mathlib.Core.Bool.{Bool, true, false, _&&_, _||_}
+use mathlib.Core.Bool.{Bool, true, false}
 use mathlib.Core.List.{List, [], _∷_, _++_}
 use mathlib.Core.Path.{_≡_, refl}
 use borrow.Author.Tests.{eq-eqb}
-use Rattle.records.specs.Tree.{Node, Tree, Trees, node, none, more}
-use Rattle.records.specs.File.{DeclarationKind, Initializer, bare, given, Declarator, Statement, declaration, expression, other, File, kindNumber}
+use Rattle.records.specs.Tree.{Node, Tree, Trees, node, more}
+use Rattle.records.specs.File.{DeclarationKind, Initializer, given, Declarator, Statement, File, kindNumber}
 use Rattle.records.specs.declared.layout.NameFacts.{NameFacts}
 use Rattle.statements.specs.Trace.{Fold}
 use Rattle.runs.specs.Hand.{Hand}
 use Rattle.runs.specs.Step.{Role, value, Origin, ofNode, ofDeclarator, ofOther, Step}
 use Rattle.runs.specs.Form.{cleared, form, choiceOf, firstRole, originOf}
-use Rattle.runs.specs.Script.{isPattern}
-use Rattle.runs.specs.InHand.{valuesOf, inHand}
-use Rattle.runs.specs.Makes.{Asked, someTurn, some, asks, roleNumber, sameOrigin, makesHere, makesIn, makesInRow, makesMarked, makesDeclarator, makesStatement, makes}
+use Rattle.runs.specs.InHand.{inHand}
+use Rattle.runs.specs.Makes.{Asked, someTurn, some, asks, roleNumber, sameOrigin, makesHere, makesIn, makesInRow, makesDeclarator, makesStatement, makes}
 use Rattle.records.proofs.Tests.{clash}
 use Rattle.preservation.proofs.Tests.{or-left, or-right, by-or}
 use Rattle.preservation.proofs.Ends.{stepOf}
@@ -41,8 +40,11 @@ module _ (Value : Type 0) (f : File) where
   abbrev pub WithinDeclarator : DeclarationKind → ℕ → Initializer → Type 0
   WithinDeclarator k a i = Makes (λ d x. makesDeclarator names d x k a i)
 
+  abbrev pub declarator-made : DeclarationKind → Asked → Step Value → Declarator → Bool
+  declarator-made k d x e = makesDeclarator names d x k (e .name) (e .initializer)
+
   abbrev pub WithinDeclarators : DeclarationKind → List Declarator → Type 0
-  WithinDeclarators k ds = Makes (λ d x. some (λ (e : Declarator). makesDeclarator names d x k (e .name) (e .initializer)) ds)
+  WithinDeclarators k ds = Makes (λ d x. some (declarator-made k d x) ds)
 
   abbrev pub WithinProgram : List Statement → Type 0
   WithinProgram ss = Makes (λ d x. some (makesStatement names d x) ss)
@@ -71,6 +73,10 @@ module _ (Value : Type 0) (f : File) where
   pub row-join : (t : Tree) (ts : Trees) (role : Role) → Within role t → WithinRow value ts → WithinRow role (more t ts)
   unfolding makesIn
   row-join t ts role h g d x e = by-or (makesIn names d x t role) (makesInRow names d x ts value) (λ q. h d x q) (λ q. g d x q) e
+
+  pub initializer-within : (k : DeclarationKind) (a : ℕ) (t : Tree) → WithinDeclarator k a (given t) → Within value t
+  unfolding makesDeclarator
+  initializer-within k a t h d x e = h d x (or-left _ _ e)
 
   -- A row of declarators or of statements, and its parts.
   module _ {A : Type 0} (made : Asked → Step Value → A → Bool) where

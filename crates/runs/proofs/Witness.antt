@@ -13,7 +13,7 @@ use Rattle.records.specs.Script.{flagsOf}
 use Rattle.records.specs.Tree.{Tree, Trees, node, none, more, count}
 use Rattle.records.specs.Count.{targetName as targetOf, firstTarget, nameRead}
 use Rattle.records.specs.Refusal.{refusal}
-use Rattle.records.specs.File.{Const, given, Statement, declaration, expression, File, kindNumber, declaratorsIn, allDeclarators, initializerTree, initializerTrees, statementTrees, allTrees, print}
+use Rattle.records.specs.File.{Const, given, Statement, declaration, expression, File, declaratorsIn, allDeclarators, initializerTree, initializerTrees, statementTrees, allTrees, print}
 use Rattle.records.specs.declared.layout.NameFacts.{NameFacts}
 use Rattle.runs.specs.Store.{Store, set}
 use Rattle.runs.specs.Hand.{static, Beside, nothing, bareEval, targetName, opaqueTarget, member, Given, only, firstOr, lastOr}
@@ -24,7 +24,7 @@ use Rattle.runs.specs.State.{State, Out, gave, cut, stop, bind}
 use Rattle.runs.specs.Run.{takes, then, isRead, kept, listed, acted, caught, gathered, chosen, inTurn, stepped, queued, held, goesOn, own, beside, finished, runNode, run}
 use Rattle.runs.specs.Script.{sets, binds, declaresBare, declaresWith, runDeclarator, runDeclarators, gives, runStatement, runStatements, Ran, whole, ran, begin, runFile}
 use Rattle.runs.specs.Shapes.{someIn, declaredIn, shapeP, firstDeclared, shapeQ, evalWhole, someEval, shapeR, shapeS}
-use Rattle.runs.specs.InHand.{isNothing, hasKey, offers, mayGive, mayKeep, valuesOf, inHand}
+use Rattle.runs.specs.InHand.{sort, sameBeside, isNothing, besideOf, mayKeep, valuesOf, inHand}
 use Rattle.runs.specs.Makes.{isMarkedStep, some, makesOwn, asks, someTurn, roleNumber, sameOrigin, makesHere, makesIn, makesMarked, makesDeclarator, makesStatement, makes, makesAct}
 use Rattle.walk.specs.Context.{contextOf, factsOf}
 use Rattle.walk.specs.Unsettled.{scopeOf, climb, readCrossesFunctionBoundary}
@@ -176,7 +176,7 @@ either false w u u′ e = e
 
 -- what a file makes, computed
 unfoldable pub made : File → Step ℕ → Bool
-unfolding cleared isMarked isMember isDelete form order childless isChain isPlain isAssignment choiceOf firstRole originOf kept takes then isRead flagsOf isNothing hasKey offers mayGive mayKeep valuesOf inHand isMarkedStep some makesOwn asks someTurn roleNumber sameOrigin isUsing makesHere makesIn makesMarked makesDeclarator makesStatement makes
+unfolding cleared isMarked isMember isDelete form order childless isChain isPlain isAssignment choiceOf firstRole originOf kept takes then isRead flagsOf sort sameBeside isNothing besideOf mayKeep valuesOf inHand isMarkedStep some makesOwn asks someTurn roleNumber sameOrigin isUsing makesHere makesIn makesMarked makesDeclarator makesStatement makes
 made f x = makesAct f x
 
 -- Before and after the folded call `o.x` holds 40.

@@ -1,4 +1,4 @@
--- What a step can have in hand, with any values. It follows `beside`, `kept` and `runOthers` of Run.
+-- What a step can have in hand, with any values: `beside`, `kept` and `runOthers` of Run.
 use Prim.Native.Nat.{ℕ}
 use mathlib.Core.Bool.{Bool, true, false, cond, _&&_, _||_, not}
 use mathlib.Core.List.{List, [], _∷_}
@@ -6,41 +6,49 @@ use lib.Dec.{eqb}
 use Rattle.records.specs.Flags.{isEval}
 use Rattle.records.specs.Script.{flagsOf}
 use Rattle.records.specs.Tree.{Node, Tree, Trees, node, none, more}
+use Rattle.records.specs.Place.{root}
 use Rattle.records.specs.declared.layout.NameFacts.{NameFacts}
-use Rattle.runs.specs.Hand.{Key, static, private, computed, Beside, nothing, bareEval, targetName, opaqueTarget, member, Given, Hand}
+use Rattle.runs.specs.Hand.{static, private, computed, Beside, nothing, bareEval, targetName, opaqueTarget, member, Hand}
 use Rattle.runs.specs.Form.{is, cleared, form, childless}
 use Rattle.runs.specs.Run.{Turn, takes, then, kept}
 
+-- what is beside a value, with the values in it left out: its sort, and its label
+unfoldable pub sort : {Value : Type 0} → Beside Value → ℕ × ℕ
+sort nothing = (0, 0)
+sort bareEval = (1, 0)
+sort (targetName a) = (2, a)
+sort (opaqueTarget l) = (3, l)
+sort (member o (static l)) = (4, l)
+sort (member o (private l)) = (5, l)
+sort (member o (computed w)) = (6, 0)
+
+unfoldable pub sameBeside : {A B : Type 0} → Beside A → Beside B → Bool
+sameBeside b c = eqb (sort b .0) (sort c .0) && eqb (sort b .1) (sort c .1)
+
 unfoldable pub isNothing : {Value : Type 0} → Beside Value → Bool
-isNothing nothing = true
-isNothing bareEval = false
-isNothing (targetName a) = false
-isNothing (opaqueTarget l) = false
-isNothing (member o k) = false
+isNothing b = eqb (sort b .0) 0
 
--- a member with this key
-unfoldable pub hasKey : {Value : Type 0} → Node → Key Value → Bool
-hasKey n (static l) = is 10 n && eqb (n .label) l
-hasKey n (private l) = is 11 n && eqb (n .label) l
-hasKey n (computed w) = is 12 n
-
--- what a node that is no chain can give beside its value
-unfoldable pub offers : {Value : Type 0} → List NameFacts → Node → Beside Value → Bool
-offers names n nothing = true
-offers names n bareEval = is 4 n && isEval (flagsOf names (n .label))
-offers names n (targetName a) = is 29 n && eqb (n .label) a
-offers names n (opaqueTarget l) = is 30 n && eqb (n .label) l
-offers names n (member o k) = hasKey n k
-
--- What a tree can give beside its value, where a chain hands on what it has in hand; and what a node can have in hand of its
--- first child beside the child's value: bare `eval` only in a call of that name, a target name only in an assignment to it.
+-- What a tree gives beside its value, and what a node has in hand of its first child beside the child's value, with the values
+-- in it left out. A chain hands on what it has in hand.
 unfoldable mutual
-  pub mayGive : {Value : Type 0} → List NameFacts → Tree → Beside Value → Bool
-  mayGive names (node n kids) b = offers names n b || is 13 n && mayKeep names (cleared n) kids b
+  pub besideOf : List NameFacts → Tree → Beside (Unit {0})
+  besideOf names (node n kids) =
+      cond (is 4 n) (cond (isEval (flagsOf names (n .label))) bareEval nothing)
+      (cond (is 29 n) (targetName (n .label))
+      (cond (is 30 n) (opaqueTarget (n .label))
+      (cond (is 10 n) (member tt (static (n .label)))
+      (cond (is 11 n) (member tt (private (n .label)))
+      (cond (is 12 n) (member tt (computed tt))
+      (cond (is 13 n) (keptOf names (cleared n) kids)
+      nothing))))))
 
-  pub mayKeep : {Value : Type 0} → List NameFacts → Node → Trees → Beside Value → Bool
-  mayKeep names n none b = isNothing b
-  mayKeep names n (more t ts) b = isNothing b || not (isNothing (kept (form n) n b)) && mayGive names t b
+  pub keptOf : List NameFacts → Node → Trees → Beside (Unit {0})
+  keptOf names n none = nothing
+  keptOf names n (more t ts) = kept (form n) n (besideOf names t)
+
+-- what a node can have in hand of its first child beside the child's value; nothing of a chain that was cut short
+unfoldable pub mayKeep : {Value : Type 0} → List NameFacts → Node → Tree → Beside Value → Bool
+mayKeep names n t b = sameBeside (kept (form n) n (besideOf names t)) b || is 13 (root t) && isNothing b
 
 module _ {Value : Type 0} where
   -- the values of those of these trees that run
@@ -55,4 +63,4 @@ module _ {Value : Type 0} where
   inHand names n w none [] = true
   inHand names n w none (h ∷ hs) = false
   inHand names n w (more t ts) [] = childless (form n)
-  inHand names n w (more t ts) (h ∷ hs) = mayKeep names n (more t ts) (h .beside) && valuesOf w ts hs
+  inHand names n w (more t ts) (h ∷ hs) = mayKeep names n t (h .beside) && valuesOf w ts hs

@@ -1,12 +1,12 @@
 -- The steps and choices that a file can make: all that a run of it comes to, whichever way choices go, with any values in
--- hand. The definitions follow Run and Script. The facts are asked of these alone; that none is missing is part of the proof
--- of demand 3. (Counted too, though no run has it: a first child's value in hand without what the child gives beside it.)
+-- hand; any chain counts as one that may be cut short. The definitions follow Run and Script. The facts are asked of these
+-- alone; that none is missing is part of the proof of demand 3.
 use Prim.Native.Nat.{ℕ}
 use mathlib.Core.Bool.{Bool, true, false, _&&_, _||_, not, Bool·beq}
 use mathlib.Core.List.{List, [], _∷_}
 use lib.Dec.{eqb}
 use Rattle.records.specs.Tree.{Node, Tree, Trees, node, none, more}
-use Rattle.records.specs.File.{DeclarationKind, Initializer, bare, given, Declarator, Statement, declaration, expression, other, File, kindNumber}
+use Rattle.records.specs.File.{DeclarationKind, Initializer, bare, given, Statement, declaration, expression, other, File, kindNumber}
 use Rattle.records.specs.declared.layout.NameFacts.{NameFacts}
 use Rattle.statements.specs.Declarators.{isUsing}
 use Rattle.runs.specs.Step.{Role, value, target, deleted, Origin, ofNode, ofDeclarator, ofOther, Step}
