@@ -13,26 +13,26 @@ use Rattle.records.proofs.Tests.{clash, both}
 use Rattle.runs.specs.Hand.{static, private, computed, Beside, nothing, bareEval, targetName as aTarget, opaqueTarget, member}
 use Rattle.runs.specs.Form.{is, cleared, isDelete, Form, isChain, isAssignment}
 use Rattle.runs.specs.Run.{kept}
-use Rattle.runs.specs.InHand.{sort, sameBeside, isNothing, besideOf, keptOf}
+use Rattle.runs.specs.InHand.{sortOf, sameBeside, isNothing, besideOf, keptOf}
 
-pub same-sort : {A B : Type 0} (b : Beside A) (c : Beside B) → sort b ≡ sort c → sameBeside b c ≡ true
+pub same-sort : {A B : Type 0} (b : Beside A) (c : Beside B) → sortOf b ≡ sortOf c → sameBeside b c ≡ true
 unfolding sameBeside
-same-sort b c e = rw (e, eq-eqb (sort c .0) (sort c .0) refl, eq-eqb (sort c .1) (sort c .1) refl)
+same-sort b c e = rw (e, eq-eqb (sortOf c .0) (sortOf c .0) refl, eq-eqb (sortOf c .1) (sortOf c .1) refl)
 
-pub sort-same : {A B : Type 0} (b : Beside A) (c : Beside B) → sameBeside b c ≡ true → sort b ≡ sort c
+pub sort-same : {A B : Type 0} (b : Beside A) (c : Beside B) → sameBeside b c ≡ true → sortOf b ≡ sortOf c
 unfolding sameBeside
 sort-same b c e =
-    let (x, y) = both (eqb (sort b .0) (sort c .0)) (eqb (sort b .1) (sort c .1)) e in
-    let p = eqb-true (sort b .0) (sort c .0) x in
-    let q = eqb-true (sort b .1) (sort c .1) y in
+    let (x, y) = both (eqb (sortOf b .0) (sortOf c .0)) (eqb (sortOf b .1) (sortOf c .1)) e in
+    let p = eqb-true (sortOf b .0) (sortOf c .0) x in
+    let q = eqb-true (sortOf b .1) (sortOf c .1) y in
     λ i. (p i, q i)
 
-pub sort-cond : {A B : Type 0} (k : Bool) (b b′ : Beside A) (c c′ : Beside B) → sort b ≡ sort c → sort b′ ≡ sort c′ → sort (cond k b b′) ≡ sort (cond k c c′)
+pub sort-cond : {A B : Type 0} (k : Bool) (b b′ : Beside A) (c c′ : Beside B) → sortOf b ≡ sortOf c → sortOf b′ ≡ sortOf c′ → sortOf (cond k b b′) ≡ sortOf (cond k c c′)
 sort-cond true b b′ c c′ e g = e
 sort-cond false b b′ c c′ e g = g
 
 pub nothing-is : {A : Type 0} (b : Beside A) → isNothing b ≡ true → b ≡ nothing
-unfolding isNothing sort
+unfolding isNothing sortOf
 nothing-is nothing e = refl
 nothing-is bareEval e = clash false refl e
 nothing-is (aTarget a) e = clash false refl e
@@ -41,27 +41,27 @@ nothing-is (member o (static l)) e = clash false refl e
 nothing-is (member o (private l)) e = clash false refl e
 nothing-is (member o (computed w)) e = clash false refl e
 
-pub nothing-sort : {A : Type 0} (b : Beside A) → isNothing b ≡ true → sort b ≡ (0, 0)
-unfolding sort
+pub nothing-sort : {A : Type 0} (b : Beside A) → isNothing b ≡ true → sortOf b ≡ (0, 0)
+unfolding sortOf
 nothing-sort b e = rw (nothing-is b e)
 
 -- what is as nothing is nothing
 pub same-nothing : {A B : Type 0} (b : Beside A) (c : Beside B) → b ≡ nothing → sameBeside b c ≡ true → isNothing c ≡ true
-unfolding isNothing sort
-same-nothing b c e g = ap (λ (s : ℕ × ℕ). eqb (s .0) 0) (sym (sort-same b c g) ∙ ap sort e)
+unfolding isNothing sortOf
+same-nothing b c e g = ap (λ (s : ℕ × ℕ). eqb (s .0) 0) (sym (sort-same b c g) ∙ ap sortOf e)
 
 -- whether a node keeps what is of this sort
 unfoldable keeping : Form → Node → ℕ → Bool
 keeping f n s =
     cond (eqb s 0) false (cond (eqb s 1) (is 14 n) (cond (eqb s 2 || eqb s 3) (isAssignment f) (is 14 n || is 24 n || isDelete n || isAssignment f || isChain f)))
 
-sort-by : {A : Type 0} (k : Bool) (b : Beside A) → sort (cond k b nothing) ≡ cond k (sort b) (0, 0)
-unfolding sort
+sort-by : {A : Type 0} (k : Bool) (b : Beside A) → sortOf (cond k b nothing) ≡ cond k (sortOf b) (0, 0)
+unfolding sortOf
 sort-by true b = refl
 sort-by false b = refl
 
-kept-sort : {A : Type 0} (f : Form) (n : Node) (b : Beside A) → sort (kept f n b) ≡ cond (keeping f n (sort b .0)) (sort b) (0, 0)
-unfolding kept keeping sort
+kept-sort : {A : Type 0} (f : Form) (n : Node) (b : Beside A) → sortOf (kept f n b) ≡ cond (keeping f n (sortOf b .0)) (sortOf b) (0, 0)
+unfolding kept keeping sortOf
 kept-sort f n nothing = refl
 kept-sort f n bareEval = sort-by (is 14 n) bareEval
 kept-sort f n (aTarget a) = sort-by (isAssignment f) (aTarget a)
@@ -71,7 +71,7 @@ kept-sort f n (member o (private l)) = sort-by (is 14 n || is 24 n || isDelete n
 kept-sort f n (member o (computed w)) = sort-by (is 14 n || is 24 n || isDelete n || isAssignment f || isChain f) (member o (computed w))
 
 -- besides that are alike are kept alike, and nothing stays nothing
-pub kept-like : {A B : Type 0} (f : Form) (n : Node) (b : Beside A) (c : Beside B) → sort b ≡ sort c → sort (kept f n b) ≡ sort (kept f n c)
+pub kept-like : {A B : Type 0} (f : Form) (n : Node) (b : Beside A) (c : Beside B) → sortOf b ≡ sortOf c → sortOf (kept f n b) ≡ sortOf (kept f n c)
 kept-like f n b c e = kept-sort f n b ∙ ap (λ (s : ℕ × ℕ). cond (keeping f n (s .0)) s (0, 0)) e ∙ sym (kept-sort f n c)
 
 pub nothing-kept : {A : Type 0} (f : Form) (n : Node) (b : Beside A) → isNothing b ≡ true → isNothing (kept f n b) ≡ true

@@ -15,8 +15,8 @@ use Rattle.runs.specs.Form.{cleared, isMarked, Choice, never, logical, conditio
 use Rattle.runs.specs.State.{State, Out, gave, bind}
 use Rattle.runs.specs.Run.{Turn, all, takes, then, resolved, isRead, gathered, chosen, stepped, queued, held, goesOn, own, beside, finished, runNode, run, runChildren, runOthers}
 use Rattle.runs.specs.Script.{isPattern, sets, gives, binds, declaresBare, declaresWith, runDeclarator, runDeclarators, runStatement, runStatements, begin}
-use Rattle.runs.specs.InHand.{sort, valuesOf, isNothing, inHand}
-use Rattle.runs.specs.Makes.{Asked, choice, step, isMarkedStep, isChoice, makesOwn, asks, someTurn, makesIn, makesMarked, makesDeclarator, makesStatement, makes}
+use Rattle.runs.specs.InHand.{sortOf, areValues, isNothing, mayHave}
+use Rattle.runs.specs.Makes.{Asked, choice, step, isMarkedStep, isMade, makesOwn, asks, someTurn, makesIn, makesMarked, makesDeclarator, makesStatement, makes}
 use Rattle.statements.specs.Declarators.{isUsing}
 use Rattle.runs.specs.Facts.{Each, TargetSame, TargetsSame, AllTargetsSame, FoldKeeps}
 use Rattle.records.proofs.Tests.{clash}
@@ -100,8 +100,8 @@ module _ {Value Rest : Type 0} (f : File) (m : Meaning Value Rest) where
   unfolding finished
   finished-cut n role hs s h = ap₂ (λ o b. bind o (λ w s′. gave (record { value = w; beside = b }) s′)) (own-cut (form n) n role (stepOf n role hs) s h) (beside-cut (form n) n hs)
 
-  chosen-cut : (c : Choice) (b b′ : Bool) (others : Others) (s : S) → (isChoice c ≡ true → b ≡ b′) → chosen c b others s ≡ chosen c b′ others s
-  unfolding isChoice chosen
+  chosen-cut : (c : Choice) (b b′ : Bool) (others : Others) (s : S) → (isMade c ≡ true → b ≡ b′) → chosen c b others s ≡ chosen c b′ others s
+  unfolding isMade chosen
   chosen-cut never b b′ others s h = refl
   chosen-cut logical b b′ others s h = rw (h refl)
   chosen-cut conditional b b′ others s h = rw (h refl)
@@ -111,7 +111,7 @@ module _ {Value Rest : Type 0} (f : File) (m : Meaning Value Rest) where
   unfolding cutTo
   chooses-cut x s e = rw e
 
-  goesOn-cut : (n : Node) (role : Role) (others : Others) (x : Given Value) (s : S) → (isChoice (choiceOf (form n)) ≡ true → makes choice f (stepOf n role (hand-of (form n) n x ∷ [])) ≡ true) → goesOn m (form n) n role others x s ≡ goesOn m′ (form n) n role others x s
+  goesOn-cut : (n : Node) (role : Role) (others : Others) (x : Given Value) (s : S) → (isMade (choiceOf (form n)) ≡ true → makes choice f (stepOf n role (hand-of (form n) n x ∷ [])) ≡ true) → goesOn m (form n) n role others x s ≡ goesOn m′ (form n) n role others x s
   unfolding goesOn
   goesOn-cut n role others x s h =
       ap (λ o. bind o (λ hs s′. gave (hand-of (form n) n x ∷ hs) s′))
@@ -119,7 +119,7 @@ module _ {Value Rest : Type 0} (f : File) (m : Meaning Value Rest) where
 
   -- what a node is asked, with this in hand
   abbrev Steps : Node → Role → Trees → Type 0
-  Steps n role ts = (d : Asked) (hs : Hand Value) → asks d names (form n) n role ≡ true → someTurn d (choiceOf (form n)) (λ w. inHand names n w ts hs) ≡ true → makes d f (stepOf n role hs) ≡ true
+  Steps n role ts = (d : Asked) (hs : Hand Value) → asks d names (form n) n role ≡ true → someTurn d (choiceOf (form n)) (λ w. mayHave names n w ts hs) ≡ true → makes d f (stepOf n role hs) ≡ true
 
   mutual
     unfolding run runNode asks
@@ -144,16 +144,16 @@ module _ {Value Rest : Type 0} (f : File) (m : Meaning Value Rest) where
     others-cut (more t ts) g w s = ap₂ (cond (takes w)) (inTurn-same _ _ _ _ (λ s′. run-cut t value (row-first Value f t ts value g) s′) (λ s′. others-cut ts (row-others Value f t ts value g) (then w) s′) s) (others-cut ts (row-others Value f t ts value g) (then w) s)
 
   -- the marked step of a declarator or of a kind 6 statement
-  marked-here : (o : Origin) (ts : Trees) (hs : Hand Value) → valuesOf all ts hs ≡ true → makesMarked names (step true) (record { origin = o; hand = hs }) o ts ≡ true
+  marked-here : (o : Origin) (ts : Trees) (hs : Hand Value) → areValues all ts hs ≡ true → makesMarked names (step true) (record { origin = o; hand = hs }) o ts ≡ true
   unfolding makesMarked isMarkedStep
   marked-here o ts hs e = rw (e, same-origin o)
 
-  no-values : valuesOf {Value = Value} all none [] ≡ true
-  unfolding valuesOf
+  no-values : areValues {Value = Value} all none [] ≡ true
+  unfolding areValues
   no-values = refl
 
-  one-value : (t : Tree) (w : Value) → valuesOf all (more t none) (only w ∷ []) ≡ true
-  unfolding valuesOf takes then isNothing sort
+  one-value : (t : Tree) (w : Value) → areValues all (more t none) (only w ∷ []) ≡ true
+  unfolding areValues takes then isNothing sortOf
   one-value t w = refl
 
   abbrev bound : DeclarationKind → ℕ → Hand Value → Step Value

@@ -15,7 +15,7 @@ use Rattle.runs.specs.Meaning.{Meaning}
 use Rattle.runs.specs.Form.{is, cleared, Choice, never, logical, conditional, optionally, form, order, childless, isName, isChain, choiceOf, firstRole}
 use Rattle.runs.specs.State.{State, Out, gave}
 use Rattle.runs.specs.Run.{Turn, all, skipped, second, third, takes, then, kept, caught, gathered, chosen, inTurn, goesOn, own, beside, finished, runNode, run, runChildren, runOthers}
-use Rattle.runs.specs.InHand.{sort, sameBeside, isNothing, besideOf, keptOf, mayKeep, valuesOf, inHand}
+use Rattle.runs.specs.InHand.{sortOf, sameBeside, isNothing, besideOf, keptOf, mayKeep, areValues, mayHave}
 use Rattle.runs.specs.Makes.{Asked, choice, step, someTurn}
 use Rattle.preservation.proofs.Tests.{by-or, or-left, or-right}
 use Rattle.preservation.proofs.Tables.{name-form}
@@ -71,7 +71,7 @@ module _ (Value : Type 0) (names : List NameFacts) where
 
     chain-gives : (n : Node) (ts : Trees) (hs : Hand Value) → Keeps n ts hs → (sameBeside (keptOf names n ts) (firstOr (m .undefined) hs .beside) || isNothing (firstOr (m .undefined) hs .beside)) ≡ true
     unfolding firstOr mayKeep besideOf
-    chain-gives n ts [] h = or-right (sameBeside (keptOf names n ts) none-beside) (isNothing none-beside) (unfold isNothing sort in refl)
+    chain-gives n ts [] h = or-right (sameBeside (keptOf names n ts) none-beside) (isNothing none-beside) (unfold isNothing sortOf in refl)
     chain-gives n none (x ∷ hs) h = absurd h
     chain-gives n (more t ts) (x ∷ hs) h =
         by-or (sameBeside (kept (form n) n (besideOf names t)) (x .beside)) (is 13 (root t) && isNothing (x .beside)) (λ q. or-left _ _ q)
@@ -93,8 +93,8 @@ module _ (Value : Type 0) (names : List NameFacts) where
         by true g = clash (is 13 n) e (chain-kind n g)
         by false g = g
 
-    other-beside : (n : Node) (ts : Trees) (hs : Hand Value) → is 13 n ≡ false → sort (besideOf names (node n ts)) ≡ sort (beside names m (form (cleared n)) (cleared n) hs)
-    unfolding beside cleared besideOf sort
+    other-beside : (n : Node) (ts : Trees) (hs : Hand Value) → is 13 n ≡ false → sortOf (besideOf names (node n ts)) ≡ sortOf (beside names m (form (cleared n)) (cleared n) hs)
+    unfolding beside cleared besideOf sortOf
     other-beside n ts hs e =
         rw (name-test n, chain-test n e, e)
         (sort-cond (is 4 n) _ _ _ _ (sort-cond (isEval (flagsOf names (n .label))) _ _ _ _ refl refl)
@@ -112,7 +112,7 @@ module _ (Value : Type 0) (names : List NameFacts) where
     Given-fits t o = Ends (λ x s. Gives t (x .beside)) (λ s. Unit {0}) (Unit {0}) o
 
     abbrev Stands : Node → Trees → Hand Value → Type 0
-    Stands n ts hs = isChain (form n) ≡ false → (marked : Bool) → someTurn (step marked) (choiceOf (form n)) (λ w. inHand names n w ts hs) ≡ true
+    Stands n ts hs = isChain (form n) ≡ false → (marked : Bool) → someTurn (step marked) (choiceOf (form n)) (λ w. mayHave names n w ts hs) ≡ true
 
     abbrev pub Hand-fits : Node → Trees → Out Value Rest (Hand Value) → Type 0
     Hand-fits n ts o = Ends (λ hs s. Keeps n ts hs × Stands n ts hs) (λ s. Unit {0}) (Unit {0}) o
@@ -124,16 +124,16 @@ module _ (Value : Type 0) (names : List NameFacts) where
     any o = ends-any o (λ x s. tt) (λ s. tt)
 
     abbrev Values : Turn → Trees → Out Value Rest (Hand Value) → Type 0
-    Values w ts o = Ends (λ hs s. valuesOf w ts hs ≡ true) (λ s. Unit {0}) (Unit {0}) o
+    Values w ts o = Ends (λ hs s. areValues w ts hs ≡ true) (λ s. Unit {0}) (Unit {0}) o
 
     -- children behind the first
-    values-skip : (w : Turn) (t : Tree) (ts : Trees) (hs : Hand Value) → takes w ≡ false → valuesOf (then w) ts hs ≡ true → valuesOf w (more t ts) hs ≡ true
-    unfolding valuesOf
+    values-skip : (w : Turn) (t : Tree) (ts : Trees) (hs : Hand Value) → takes w ≡ false → areValues (then w) ts hs ≡ true → areValues w (more t ts) hs ≡ true
+    unfolding areValues
     values-skip w t ts [] e h = rw (e, h)
     values-skip w t ts (x ∷ hs) e h = rw (e, h)
 
-    values-take : (w : Turn) (t : Tree) (ts : Trees) (u : Value) (hs : Hand Value) → takes w ≡ true → valuesOf (then w) ts hs ≡ true → valuesOf w (more t ts) (only u ∷ hs) ≡ true
-    unfolding valuesOf isNothing sort
+    values-take : (w : Turn) (t : Tree) (ts : Trees) (u : Value) (hs : Hand Value) → takes w ≡ true → areValues (then w) ts hs ≡ true → areValues w (more t ts) (only u ∷ hs) ≡ true
+    unfolding areValues isNothing sortOf
     values-take w t ts u hs e h = rw (e, h)
 
     turn-fits : (b : Bool) (w : Turn) (t : Tree) (ts : Trees) (child : State Value Rest → Out Value Rest (Given Value)) (others : State Value Rest → Out Value Rest (Hand Value)) (s : State Value Rest) → takes w ≡ b → ((s : State Value Rest) → Values (then w) ts (others s)) → Values w (more t ts) (cond b (inTurn child others s) (others s))
@@ -141,8 +141,8 @@ module _ (Value : Type 0) (names : List NameFacts) where
     turn-fits true w t ts child others s e h = ends-bind (any (child s)) (λ x s′ u. ends-bind (h s′) (λ hs s″ g. gives (values-take w t ts (x .value) hs e g)))
     turn-fits false w t ts child others s e h = ends-map (h s) (λ hs s′ g. values-skip w t ts hs e g) (λ s′ u. tt) (λ u. tt)
 
-    no-trees : (w : Turn) → valuesOf {Value = Value} w none [] ≡ true
-    unfolding valuesOf
+    no-trees : (w : Turn) → areValues {Value = Value} w none [] ≡ true
+    unfolding areValues
     no-trees w = refl
 
     others-fit : (ts : Trees) (w : Turn) (s : State Value Rest) → Values w ts (runOthers names m ts w s)
@@ -152,29 +152,29 @@ module _ (Value : Type 0) (names : List NameFacts) where
 
     -- as they are chosen
     abbrev Chosen : Choice → Trees → Out Value Rest (Hand Value) → Type 0
-    Chosen c ts o = Ends (λ hs s. (marked : Bool) → someTurn (step marked) c (λ w. valuesOf w ts hs) ≡ true) (λ s. Unit {0}) (Unit {0}) o
+    Chosen c ts o = Ends (λ hs s. (marked : Bool) → someTurn (step marked) c (λ w. areValues w ts hs) ≡ true) (λ s. Unit {0}) (Unit {0}) o
 
     chosen-fit : (ts : Trees) (c : Choice) (b : Bool) (others : Turn → State Value Rest → Out Value Rest (Hand Value)) (s : State Value Rest) → ((w : Turn) → Values w ts (others w s)) → Chosen c ts (chosen c b others s)
     unfolding chosen someTurn
     chosen-fit ts never b others s h = ends-map (h all) (λ hs s′ e k. e) (λ s′ u. tt) (λ u. tt)
     chosen-fit ts logical true others s h = ends-map (h all) (λ hs s′ e k. or-left _ _ e) (λ s′ u. tt) (λ u. tt)
-    chosen-fit ts logical false others s h = ends-map (h skipped) (λ hs s′ e k. or-right (valuesOf all ts hs) _ e) (λ s′ u. tt) (λ u. tt)
+    chosen-fit ts logical false others s h = ends-map (h skipped) (λ hs s′ e k. or-right (areValues all ts hs) _ e) (λ s′ u. tt) (λ u. tt)
     chosen-fit ts conditional true others s h = ends-map (h second) (λ hs s′ e k. or-left _ _ e) (λ s′ u. tt) (λ u. tt)
-    chosen-fit ts conditional false others s h = ends-map (h third) (λ hs s′ e k. or-right (valuesOf second ts hs) _ e) (λ s′ u. tt) (λ u. tt)
+    chosen-fit ts conditional false others s h = ends-map (h third) (λ hs s′ e k. or-right (areValues second ts hs) _ e) (λ s′ u. tt) (λ u. tt)
     chosen-fit ts optionally true others s h = ends-map (h all) (λ hs s′ e k. e) (λ s′ u. tt) (λ u. tt)
     chosen-fit ts optionally false others s h = cuts tt
 
     -- with what the first child gave
-    keeps-first : (n : Node) (w : Turn) (t : Tree) (ts : Trees) (x : Given Value) (hs : Hand Value) → Gives t (x .beside) → valuesOf w ts hs ≡ true → inHand names n w (more t ts) (hand-of (form n) n x ∷ hs) ≡ true
-    unfolding inHand
+    keeps-first : (n : Node) (w : Turn) (t : Tree) (ts : Trees) (x : Given Value) (hs : Hand Value) → Gives t (x .beside) → areValues w ts hs ≡ true → mayHave names n w (more t ts) (hand-of (form n) n x ∷ hs) ≡ true
+    unfolding mayHave
     keeps-first n w t ts x hs e h = rw (keeps n t (x .beside) e, h)
 
-    none-skipped : (ts : Trees) → valuesOf {Value = Value} skipped ts [] ≡ true
-    unfolding valuesOf takes then
+    none-skipped : (ts : Trees) → areValues {Value = Value} skipped ts [] ≡ true
+    unfolding areValues takes then
     none-skipped none = refl
     none-skipped (more t ts) = none-skipped ts
 
-    pub choice-fits : (n : Node) (t : Tree) (ts : Trees) (x : Given Value) → Gives t (x .beside) → someTurn choice (choiceOf (form n)) (λ w. inHand names n w (more t ts) (hand-of (form n) n x ∷ [])) ≡ true
+    pub choice-fits : (n : Node) (t : Tree) (ts : Trees) (x : Given Value) → Gives t (x .beside) → someTurn choice (choiceOf (form n)) (λ w. mayHave names n w (more t ts) (hand-of (form n) n x ∷ [])) ≡ true
     unfolding someTurn
     choice-fits n t ts x e = keeps-first n skipped t ts x [] e (none-skipped ts)
 
@@ -182,21 +182,21 @@ module _ (Value : Type 0) (names : List NameFacts) where
     unfolding goesOn
     goesOn-fits n t ts role others x s e h =
         ends-bind (chosen-fit ts (choiceOf (form n)) _ others s h) (λ hs s′ g.
-        gives (keeps n t (x .beside) e, λ q k. turn-on (step k) (choiceOf (form n)) (λ w. valuesOf w ts hs) (λ w. inHand names n w (more t ts) (hand-of (form n) n x ∷ hs)) (λ w z. keeps-first n w t ts x hs e z) (g k)))
+        gives (keeps n t (x .beside) e, λ q k. turn-on (step k) (choiceOf (form n)) (λ w. areValues w ts hs) (λ w. mayHave names n w (more t ts) (hand-of (form n) n x ∷ hs)) (λ w z. keeps-first n w t ts x hs e z) (g k)))
 
     -- no child has run
     no-keeps : (n : Node) (ts : Trees) → Keeps n ts []
     no-keeps n none = tt
     no-keeps n (more t ts) = tt
 
-    none-hand : (n : Node) (w : Turn) (ts : Trees) → childless (form n) ≡ true → inHand {Value = Value} names n w ts [] ≡ true
-    unfolding inHand
+    none-hand : (n : Node) (w : Turn) (ts : Trees) → childless (form n) ≡ true → mayHave {Value = Value} names n w ts [] ≡ true
+    unfolding mayHave
     none-hand n w none e = refl
     none-hand n w (more t ts) e = e
 
     gathered-by : (b c : Bool) (n : Node) (ts : Trees) (o : Out Value Rest (Hand Value)) (s : State Value Rest) → childless (form n) ≡ b → isChain (form n) ≡ c → Hand-fits n ts o → Hand-fits n ts (cond b (gave [] s) (cond c (caught o) o))
     unfolding caught
-    gathered-by true c n ts o s e g h = gives (no-keeps n ts, λ q k. turn-any (step k) (choiceOf (form n)) (λ w. inHand names n w ts []) (λ w. none-hand n w ts e))
+    gathered-by true c n ts o s e g h = gives (no-keeps n ts, λ q k. turn-any (step k) (choiceOf (form n)) (λ w. mayHave names n w ts []) (λ w. none-hand n w ts e))
     gathered-by false true n ts o s e g (gives h) = gives h
     gathered-by false true n ts o s e g (cuts h) = gives (no-keeps n ts, λ q. clash (isChain (form n)) q g)
     gathered-by false true n ts o s e g (halts h) = halts tt
@@ -210,8 +210,8 @@ module _ (Value : Type 0) (names : List NameFacts) where
     unfolding finished
     finished-fits n ts role hs s h = ends-bind (any (own names m (form (cleared n)) (cleared n) role _ s)) (λ w s′ u. gives (gives-beside n ts hs h))
 
-    no-children : (n : Node) (w : Turn) → inHand {Value = Value} names n w none [] ≡ true
-    unfolding inHand
+    no-children : (n : Node) (w : Turn) → mayHave {Value = Value} names n w none [] ≡ true
+    unfolding mayHave
     no-children n w = refl
 
     mutual
@@ -221,5 +221,5 @@ module _ (Value : Type 0) (names : List NameFacts) where
       given-fits (node n ts) role s = ends-bind (gathered-fits (cleared n) ts _ s (hand-fits ts (cleared n) role s)) (λ hs s′ h. finished-fits n ts role hs s′ (h .0))
 
       pub hand-fits : (ts : Trees) (n : Node) (role : Role) (s : State Value Rest) → Hand-fits n ts (runChildren names m ts (form n) n role s)
-      hand-fits none n role s = gives (tt, λ q k. turn-any (step k) (choiceOf (form n)) (λ w. inHand names n w none []) (λ w. no-children n w))
+      hand-fits none n role s = gives (tt, λ q k. turn-any (step k) (choiceOf (form n)) (λ w. mayHave names n w none []) (λ w. no-children n w))
       hand-fits (more t ts) n role s = ends-bind (given-fits t (firstRole (form n) n role) s) (λ x s′ e. goesOn-fits n t ts role _ x s′ e (λ w. others-fit ts w s′))

@@ -11,7 +11,7 @@ use Rattle.runs.specs.Hand.{Beside, Hand}
 use Rattle.runs.specs.Step.{Role, Step}
 use Rattle.runs.specs.Form.{is, cleared, isMarked, isMember, Form, constant, name, targetName, leaf, chain, property, importing, sequence, assignment, stepping, form, childless, choiceOf, originOf}
 use Rattle.runs.specs.Run.{Turn, kept}
-use Rattle.runs.specs.InHand.{sameBeside, isNothing, besideOf, keptOf, mayKeep, valuesOf, inHand}
+use Rattle.runs.specs.InHand.{sameBeside, isNothing, besideOf, keptOf, mayKeep, areValues, mayHave}
 use Rattle.runs.specs.Makes.{Asked, choice, step, makesOwn, asks, someTurn, sameOrigin, makesHere, makesIn, makesInRow}
 use Rattle.preservation.proofs.Besides.{same-beside}
 use Rattle.preservation.proofs.At.{placedAt, kept-at, role-at}
@@ -48,14 +48,14 @@ module _ {Value : Type 0} (names : List NameFacts) (p : ℕ) where
   unfolding mayKeep
   keep-at n t b = ap (λ k. sameBeside k b || is 13 (root t) && isNothing b) (keeps-at p n (besideOf names t))
 
-  hand-at : (n : Node) (w : Turn) (ts : Trees) (hs : Hand Value) → inHand names (placedAt p n) w ts hs ≡ inHand names n w ts hs
-  unfolding inHand
+  hand-at : (n : Node) (w : Turn) (ts : Trees) (hs : Hand Value) → mayHave names (placedAt p n) w ts hs ≡ mayHave names n w ts hs
+  unfolding mayHave
   hand-at n w none [] = refl
   hand-at n w none (h ∷ hs) = refl
   hand-at n w (more t ts) [] = ap childless (form-at p n)
-  hand-at n w (more t ts) (h ∷ hs) = ap (λ b. b && valuesOf w ts hs) (keep-at n t (h .beside))
+  hand-at n w (more t ts) (h ∷ hs) = ap (λ b. b && areValues w ts hs) (keep-at n t (h .beside))
 
-  turn-at : (d : Asked) (n : Node) (ts : Trees) (hs : Hand Value) → someTurn d (choiceOf (form (placedAt p n))) (λ w. inHand names (placedAt p n) w ts hs) ≡ someTurn d (choiceOf (form n)) (λ w. inHand names n w ts hs)
+  turn-at : (d : Asked) (n : Node) (ts : Trees) (hs : Hand Value) → someTurn d (choiceOf (form (placedAt p n))) (λ w. mayHave names (placedAt p n) w ts hs) ≡ someTurn d (choiceOf (form n)) (λ w. mayHave names n w ts hs)
   turn-at d n ts hs = ap₂ (λ f test. someTurn d (choiceOf f) test) (form-at p n) (fun-ext (λ w. hand-at n w ts hs))
 
 asks-at : (p : ℕ) (names : List NameFacts) (d : Asked) (f : Form) (n : Node) (role : Role) → asks d names f (placedAt p n) role ≡ asks d names f n role
@@ -77,7 +77,7 @@ module _ {Value : Type 0} (names : List NameFacts) (p : ℕ) (d : Asked) (x : St
   unfolding makesHere
   here-at n role ts =
       ap₂ (λ a b. a && b && sameOrigin (originOf (placedAt p n) role) (x .origin)) (turn-at names p d n ts (x .hand)) (ap (λ f. asks d names f (placedAt p n) role) (form-at p n) ∙ asks-at p names d (form n) n role)
-      ∙ ap (λ o. someTurn d (choiceOf (form n)) (λ w. inHand names n w ts (x .hand)) && asks d names (form n) n role && sameOrigin o (x .origin)) (origin-at p n role)
+      ∙ ap (λ o. someTurn d (choiceOf (form n)) (λ w. mayHave names n w ts (x .hand)) && asks d names (form n) n role && sameOrigin o (x .origin)) (origin-at p n role)
 
   node-at : (n : Node) (ts : Trees) (role : Role) → makesIn names d x (node (placedAt p n) ts) role ≡ makesIn names d x (node n ts) role
   unfolding makesIn form placedAt cleared

@@ -14,7 +14,7 @@ use Rattle.runs.specs.Step.{value, ofDeclarator, Step}
 use Rattle.runs.specs.Run.{all}
 use Rattle.runs.specs.Script.{isPattern}
 use Rattle.runs.specs.Facts.{Each}
-use Rattle.runs.specs.InHand.{valuesOf}
+use Rattle.runs.specs.InHand.{areValues}
 use Rattle.runs.specs.Makes.{Asked, isMarkedStep, sameOrigin, makesIn, makesMarked, makesDeclarator, makesStatement, makes}
 use Rattle.preservation.proofs.Tests.{or-right, by-or}
 use Rattle.preservation.proofs.Places.{Place, declarator, statement, initializer, declaratorsAt, statementsAt}
@@ -36,8 +36,8 @@ module _ (Value : Type 0) (f : File) where
   file-within d x e = e
 
   -- A declarator with another initializer.
-  same-values : (t u : Tree) (hs : Hand Value) → valuesOf all (more u none) hs ≡ valuesOf all (more t none) hs
-  unfolding valuesOf
+  same-values : (t u : Tree) (hs : Hand Value) → areValues all (more u none) hs ≡ areValues all (more t none) hs
+  unfolding areValues
   same-values t u [] = refl
   same-values t u (h ∷ hs) = refl
 

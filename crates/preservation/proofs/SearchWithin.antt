@@ -20,8 +20,8 @@ use Rattle.runs.specs.Step.{Role, value, Step}
 use Rattle.runs.specs.Form.{is, cleared, chain, form, order, isChain, choiceOf, firstRole, originOf}
 use Rattle.runs.specs.Run.{Turn, takes, then, kept}
 use Rattle.runs.specs.Shapes.{evalWhole}
-use Rattle.runs.specs.InHand.{sort, sameBeside, isNothing, besideOf, keptOf, mayKeep, valuesOf, inHand}
-use Rattle.runs.specs.Makes.{Asked, choice, step, isChoice, makesOwn, asks, someTurn, sameOrigin, makesHere, makesIn, makesInRow, makes}
+use Rattle.runs.specs.InHand.{sortOf, sameBeside, isNothing, besideOf, keptOf, mayKeep, areValues, mayHave}
+use Rattle.runs.specs.Makes.{Asked, choice, step, isMade, makesOwn, asks, someTurn, sameOrigin, makesHere, makesIn, makesInRow, makes}
 use Rattle.preservation.proofs.Tests.{and-then, and-on, by-or, or-left}
 use Rattle.preservation.proofs.Tables.{walked-cleared, cleared-once, form-shape, shape-kinds}
 use Rattle.preservation.proofs.Kept.{under, in-row}
@@ -69,13 +69,13 @@ module _ (Value : Type 0) (f : File) (v : ℕ) (r : Tree) where
 
   -- a row of children behind the first
   record FollowsRow (ts ts′ : Trees) : Type 0 where
-    values : (w : Turn) (hs : Hand Value) → valuesOf w ts′ hs ≡ true → valuesOf w ts hs ≡ true
+    values : (w : Turn) (hs : Hand Value) → areValues w ts′ hs ≡ true → areValues w ts hs ≡ true
     within : WithinRow Value f value ts → WithinRow Value f value ts′
 
   -- the children of a node
   record FollowsChildren (n : Node) (ts ts′ : Trees) : Type 0 where
     first-same : isChain (form n) ≡ true → keptOf names n ts′ ≡ keptOf names n ts
-    hand : (w : Turn) (hs : Hand Value) → inHand names n w ts′ hs ≡ true → inHand names n w ts hs ≡ true
+    hand : (w : Turn) (hs : Hand Value) → mayHave names n w ts′ hs ≡ true → mayHave names n w ts hs ≡ true
     within : (role : Role) → WithinRow Value f (firstRole (form n) n role) ts → WithinRow Value f (firstRole (form n) n role) ts′
 
   -- so it is of an answer; a tree at which the search stopped isn't the name
@@ -102,13 +102,13 @@ module _ (Value : Type 0) (f : File) (v : ℕ) (r : Tree) where
   in-order R t ts h g k passed passed x y = tt
 
   -- Children behind the first.
-  values-both : (t t′ : Tree) (ts ts′ : Trees) → ((w : Turn) (hs : Hand Value) → valuesOf w ts′ hs ≡ true → valuesOf w ts hs ≡ true) → (w : Turn) (hs : Hand Value) → valuesOf w (more t′ ts′) hs ≡ true → valuesOf w (more t ts) hs ≡ true
-  unfolding valuesOf
-  values-both t t′ ts ts′ h w [] e = let (a, b) = both (not (takes w)) (valuesOf (then w) ts′ []) e in rw (a, h (then w) [] b)
+  values-both : (t t′ : Tree) (ts ts′ : Trees) → ((w : Turn) (hs : Hand Value) → areValues w ts′ hs ≡ true → areValues w ts hs ≡ true) → (w : Turn) (hs : Hand Value) → areValues w (more t′ ts′) hs ≡ true → areValues w (more t ts) hs ≡ true
+  unfolding areValues
+  values-both t t′ ts ts′ h w [] e = let (a, b) = both (not (takes w)) (areValues (then w) ts′ []) e in rw (a, h (then w) [] b)
   values-both t t′ ts ts′ h w (x ∷ hs) e = by (takes w) e
     where
-      by : (c : Bool) → cond c (isNothing (x .beside) && valuesOf (then w) ts′ hs) (valuesOf (then w) ts′ (x ∷ hs)) ≡ true → cond c (isNothing (x .beside) && valuesOf (then w) ts hs) (valuesOf (then w) ts (x ∷ hs)) ≡ true
-      by true e = let (a, b) = both (isNothing (x .beside)) (valuesOf (then w) ts′ hs) e in rw (a, h (then w) hs b)
+      by : (c : Bool) → cond c (isNothing (x .beside) && areValues (then w) ts′ hs) (areValues (then w) ts′ (x ∷ hs)) ≡ true → cond c (isNothing (x .beside) && areValues (then w) ts hs) (areValues (then w) ts (x ∷ hs)) ≡ true
+      by true e = let (a, b) = both (isNothing (x .beside)) (areValues (then w) ts′ hs) e in rw (a, h (then w) hs b)
       by false e = h (then w) (x ∷ hs) e
 
   row-both : (t t′ : Tree) (ts ts′ : Trees) → Follows t t′ → FollowsRow ts ts′ → FollowsRow (more t ts) (more t′ ts′)
@@ -146,11 +146,11 @@ module _ (Value : Type 0) (f : File) (v : ℕ) (r : Tree) where
   row-plan tag t ts a b x y = row-order t ts a b x y
 
   -- The first child of a node.
-  hand-both : (n : Node) (t t′ : Tree) (ts ts′ : Trees) → ((b : Beside Value) → mayKeep names n t′ b ≡ true → mayKeep names n t b ≡ true) → ((w : Turn) (hs : Hand Value) → valuesOf w ts′ hs ≡ true → valuesOf w ts hs ≡ true)
-      → (w : Turn) (hs : Hand Value) → inHand names n w (more t′ ts′) hs ≡ true → inHand names n w (more t ts) hs ≡ true
-  unfolding inHand
+  hand-both : (n : Node) (t t′ : Tree) (ts ts′ : Trees) → ((b : Beside Value) → mayKeep names n t′ b ≡ true → mayKeep names n t b ≡ true) → ((w : Turn) (hs : Hand Value) → areValues w ts′ hs ≡ true → areValues w ts hs ≡ true)
+      → (w : Turn) (hs : Hand Value) → mayHave names n w (more t′ ts′) hs ≡ true → mayHave names n w (more t ts) hs ≡ true
+  unfolding mayHave
   hand-both n t t′ ts ts′ k h w [] e = e
-  hand-both n t t′ ts ts′ k h w (x ∷ hs) e = let (a, b) = both (mayKeep names n t′ (x .beside)) (valuesOf w ts′ hs) e in rw (k (x .beside) a, h w hs b)
+  hand-both n t t′ ts ts′ k h w (x ∷ hs) e = let (a, b) = both (mayKeep names n t′ (x .beside)) (areValues w ts′ hs) e in rw (k (x .beside) a, h w hs b)
 
   same-first : (n : Node) (t t′ : Tree) (ts ts′ : Trees) → besideOf names t′ ≡ besideOf names t → keptOf names n (more t′ ts′) ≡ keptOf names n (more t ts)
   unfolding besideOf
@@ -203,7 +203,7 @@ module _ (Value : Type 0) (f : File) (v : ℕ) (r : Tree) where
 
   name-keep : (n : Node) (t : Tree) (b : Beside Value) → isSpecificId v (root t) ≡ true → isEval (flagsOf names v) ≡ false → isNothing b ≡ true → mayKeep names n t b ≡ true
   unfolding mayKeep
-  name-keep n (node k ts) b e g h = or-left _ _ (same-sort (kept (form n) n (besideOf names (node k ts))) b (ap sort (ap (kept (form n) n) (name-beside k ts e g) ∙ kept-nothing n) ∙ sym (nothing-sort b h ∙ (unfold sort in refl))))
+  name-keep n (node k ts) b e g h = or-left _ _ (same-sort (kept (form n) n (besideOf names (node k ts))) b (ap sortOf (ap (kept (form n) n) (name-beside k ts e g) ∙ kept-nothing n) ∙ sym (nothing-sort b h ∙ (unfold sortOf in refl))))
 
   -- what is kept of a tree that gives nothing to keep is nothing
   keep-nothing : (n : Node) (t : Tree) (b : Beside Value) → kept (form n) n (besideOf names t) ≡ nothing → mayKeep names n t b ≡ true → isNothing b ≡ true
@@ -213,7 +213,7 @@ module _ (Value : Type 0) (f : File) (v : ℕ) (r : Tree) where
   -- A tag in whose place the initializer stays indirect.
   still-here : (d : Asked) (x : Step Value) (n : Node) (role : Role) (ts : Trees) → asks d names (form n) n role ≡ false → makesHere names d x n role ts ≡ false
   unfolding makesHere
-  still-here d x n role ts e = rw e (and-none (someTurn d (choiceOf (form n)) (λ w. inHand names n w ts (x .hand))))
+  still-here d x n role ts e = rw e (and-none (someTurn d (choiceOf (form n)) (λ w. mayHave names n w ts (x .hand))))
     where
       and-none : (b : Bool) → (b && false && sameOrigin (originOf n role) (x .origin)) ≡ false
       and-none true = refl
@@ -226,7 +226,7 @@ module _ (Value : Type 0) (f : File) (v : ℕ) (r : Tree) where
   pair p = record { kind = 28; flags = 0; label = 0; position = p }
 
   quiet : (d : Asked) (p : ℕ) (role : Role) → (asks d names (form (cleared (one p))) (cleared (one p)) role ≡ false) × (asks d names (form (cleared (pair p))) (cleared (pair p)) role ≡ false)
-  unfolding asks makesOwn isChoice choiceOf form cleared
+  unfolding asks makesOwn isMade choiceOf form cleared
   quiet choice p role = (refl, refl)
   quiet (step b) p role = (refl, refl)
 
@@ -302,9 +302,9 @@ module _ (Value : Type 0) (f : File) (v : ℕ) (r : Tree) where
     where
       hands : makesHere names d x (cleared n) role ts′ ≡ true → makesHere names d x (cleared n) role ts ≡ true
       hands q = unfold makesHere in (
-          let (a, b) = both (someTurn d (choiceOf (form (cleared n))) (λ w. inHand names (cleared n) w ts′ (x .hand)) && asks d names (form (cleared n)) (cleared n) role) (sameOrigin (originOf (cleared n) role) (x .origin)) q in
-          let (c, k) = both (someTurn d (choiceOf (form (cleared n))) (λ w. inHand names (cleared n) w ts′ (x .hand))) (asks d names (form (cleared n)) (cleared n) role) a in
-          rw (turn-on d (choiceOf (form (cleared n))) (λ w. inHand names (cleared n) w ts′ (x .hand)) (λ w. inHand names (cleared n) w ts (x .hand)) (λ w z. h .hand w (x .hand) z) c, k, b)
+          let (a, b) = both (someTurn d (choiceOf (form (cleared n))) (λ w. mayHave names (cleared n) w ts′ (x .hand)) && asks d names (form (cleared n)) (cleared n) role) (sameOrigin (originOf (cleared n) role) (x .origin)) q in
+          let (c, k) = both (someTurn d (choiceOf (form (cleared n))) (λ w. mayHave names (cleared n) w ts′ (x .hand))) (asks d names (form (cleared n)) (cleared n) role) a in
+          rw (turn-on d (choiceOf (form (cleared n))) (λ w. mayHave names (cleared n) w ts′ (x .hand)) (λ w. mayHave names (cleared n) w ts (x .hand)) (λ w z. h .hand w (x .hand) z) c, k, b)
           )
 
       here : makesHere names d x (cleared n) role ts′ ≡ true → makesIn names d x (node n ts) role ≡ true

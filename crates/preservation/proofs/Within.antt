@@ -11,7 +11,7 @@ use Rattle.statements.specs.Trace.{Fold}
 use Rattle.runs.specs.Hand.{Hand}
 use Rattle.runs.specs.Step.{Role, value, Origin, ofNode, ofDeclarator, ofOther, Step}
 use Rattle.runs.specs.Form.{cleared, form, choiceOf, firstRole, originOf}
-use Rattle.runs.specs.InHand.{inHand}
+use Rattle.runs.specs.InHand.{mayHave}
 use Rattle.runs.specs.Makes.{Asked, someTurn, some, asks, roleNumber, sameOrigin, makesHere, makesIn, makesInRow, makesDeclarator, makesStatement, makes}
 use Rattle.records.proofs.Tests.{clash}
 use Rattle.preservation.proofs.Tests.{or-left, or-right, by-or}
@@ -54,7 +54,7 @@ module _ (Value : Type 0) (f : File) where
   WithinFold φ = WithinProgram (φ .before) × Within value (φ .initializer) × Within value (φ .into)
 
   -- A node: its own steps, and those of its children.
-  pub node-steps : (n : Node) (ts : Trees) (role : Role) → Within role (node n ts) → (d : Asked) (hs : Hand Value) → asks d names (form (cleared n)) (cleared n) role ≡ true → someTurn d (choiceOf (form (cleared n))) (λ w. inHand names (cleared n) w ts hs) ≡ true → makes d f (stepOf (cleared n) role hs) ≡ true
+  pub node-steps : (n : Node) (ts : Trees) (role : Role) → Within role (node n ts) → (d : Asked) (hs : Hand Value) → asks d names (form (cleared n)) (cleared n) role ≡ true → someTurn d (choiceOf (form (cleared n))) (λ w. mayHave names (cleared n) w ts hs) ≡ true → makes d f (stepOf (cleared n) role hs) ≡ true
   unfolding makesIn makesHere
   node-steps n ts role h d hs e g = h d (stepOf (cleared n) role hs) (or-left (makesHere names d (stepOf (cleared n) role hs) (cleared n) role ts) _ (rw (g, e, same-origin (originOf (cleared n) role))))
 

@@ -1,4 +1,4 @@
--- Runs that are computed; a meaning of which the facts of one file are true, and those of two others not.
+-- Runs that are computed; meanings of which the facts of a file are true, and of which they aren't.
 pub mod Examples
 pub mod Witness
 pub mod HiddenSteps

@@ -1,6 +1,6 @@
 -- The hypotheses of demand 3 can be met: a file, the fold made in it, and a meaning with steps that write and that stop, of
 -- which all facts are true. The fold brings a call into `o.x = v`, while another call of the same kind, label and flags does
--- change what `o.x` gives. Direct evals and kind 6 statements write every name, and read v or not; the file has none
+-- change what `o.x` gives. Direct evals, patterns, usings and kind 6 statements do whatever you like; the file has none
 -- (HiddenSteps: files that do). Assumes nothing.
 use Prim.Native.Nat.{ℕ, _+_}
 use mathlib.Core.Bool.{Bool, true, false, cond, _&&_, _||_, and-false, false≢true}
@@ -24,12 +24,12 @@ use Rattle.runs.specs.State.{State, Out, gave, cut, stop, bind}
 use Rattle.runs.specs.Run.{takes, then, isRead, kept, listed, acted, caught, gathered, chosen, inTurn, stepped, queued, held, goesOn, own, beside, finished, runNode, run}
 use Rattle.runs.specs.Script.{sets, binds, declaresBare, declaresWith, runDeclarator, runDeclarators, gives, runStatement, runStatements, Ran, whole, ran, begin, runFile}
 use Rattle.runs.specs.Shapes.{someIn, declaredIn, shapeP, firstDeclared, shapeQ, evalWhole, someEval, shapeR, shapeS}
-use Rattle.runs.specs.InHand.{sort, sameBeside, isNothing, besideOf, mayKeep, valuesOf, inHand}
-use Rattle.runs.specs.Makes.{isMarkedStep, some, makesOwn, asks, someTurn, roleNumber, sameOrigin, makesHere, makesIn, makesMarked, makesDeclarator, makesStatement, makes, makesAct}
+use Rattle.runs.specs.InHand.{sortOf, sameBeside, isNothing, besideOf, mayKeep, areValues, mayHave}
+use Rattle.runs.specs.Makes.{Asked, choice, step, isMarkedStep, isMade, some, makesOwn, asks, someTurn, roleNumber, sameOrigin, makesHere, makesIn, makesMarked, makesDeclarator, makesStatement, makes}
 use Rattle.walk.specs.Context.{contextOf, factsOf}
 use Rattle.walk.specs.Unsettled.{scopeOf, climb, readCrossesFunctionBoundary}
 use Rattle.runs.specs.Demand.{folded, both-ended, SameRun}
-use Rattle.runs.specs.Facts.{isTargetOf, aims, throughBy, through, isOfNode, AgreeBut, ActsAlike, both-done, both-stop, FoldKeeps, Facts}
+use Rattle.runs.specs.Facts.{isTargetOf, aims, throughBy, through, isOfNode, AgreeBut, ActsAlike, both-done, both-stop, FoldKeeps, thisStep, Facts}
 use Rattle.statements.specs.Declarators.{isUsing}
 use Rattle.statements.specs.Trace.{Fold}
 use Rattle.statements.specs.Fold.{foldFile}
@@ -39,7 +39,7 @@ use Rattle.statements.proofs.Computed.{computed}
 abbrev nd : ℕ → ℕ → ℕ → Trees → Tree
 nd kind flags label kids = node (record { kind = kind; flags = flags; label = label; position = 0 }) kids
 
-abbrev name : ℕ → Tree
+abbrev pub name : ℕ → Tree
 name a = nd 4 0 a none
 
 abbrev pub call : ℕ → Tree
@@ -90,12 +90,12 @@ looks (ofNode kind label flags role) r = cond (eqb kind 10) (r .0) (cond (eqb ki
 looks (ofDeclarator k a) r = r .1
 looks ofOther r = r .1
 
--- An assignment sets `o.x`; a call of the value 12 does so too; every other step counts.
+-- An assignment sets `o.x`; a call of the value 12 adds to it; every other step counts.
 unfoldable pub changes : Origin → List (Given ℕ) → Bench → Bench
 changes (ofNode kind label flags role) hs r =
     cond (eqb kind 20) (lastOr 0 hs, r .1) (cond (eqb kind 14 && eqb (callee hs) 12) (r .0 + 50, r .1) (r .0, r .1 + 1))
-changes (ofDeclarator k a) hs r = (r .0, r .1 + 1)
-changes ofOther hs r = (r .0, r .1 + 1)
+changes (ofDeclarator k a) hs r = r
+changes ofOther hs r = r
 
 -- A call of the value 13 stops.
 unfoldable pub halts : Origin → List (Given ℕ) → Bool
@@ -107,8 +107,12 @@ halts ofOther hs = false
 unfoldable pub writes : Step ℕ → (ℕ → ℕ) → ℕ → ℕ
 writes x names a = cond (through a x) (lastOr 0 (x .hand)) (names a)
 
--- A direct eval, which has bare `eval` in hand, and a kind 6 statement run code that the file doesn't show. Their steps set
--- every name to 0, and give what v holds if they read it.
+unfoldable pub acts : Bool → Step ℕ → Store ℕ Bench → Act ℕ Bench
+acts true x s = stops
+acts false x s = done (s .rest .1) (record { names = writes x (s .names); rest = changes (x .origin) (x .hand) (s .rest) })
+
+-- A direct eval has bare `eval` in hand. Its steps and choices, and those of patterns, usings and kind 6 statements, are as any
+-- other meaning has them.
 unfoldable pub isDirect : Beside ℕ → Bool
 isDirect nothing = false
 isDirect bareEval = true
@@ -116,25 +120,18 @@ isDirect (targetName a) = false
 isDirect (opaqueTarget l) = false
 isDirect (member o k) = false
 
-unfoldable pub unshown : Origin → List (Given ℕ) → Bool
-unshown (ofNode kind label flags role) hs = isDirect (firstOr 0 hs .beside)
-unshown (ofDeclarator k a) hs = false
-unshown ofOther hs = true
+unfoldable pub isFree : Origin → List (Given ℕ) → Bool
+isFree (ofNode kind label flags role) hs = isDirect (firstOr 0 hs .beside)
+isFree (ofDeclarator k a) hs = true
+isFree ofOther hs = true
 
-unfoldable pub resets : Bool → Store ℕ Bench → Act ℕ Bench
-resets read s = done (cond read (s .names 0) 0) (record { names = λ a. 0; rest = s .rest })
-
-unfoldable pub acts : Bool → Step ℕ → Store ℕ Bench → Act ℕ Bench
-acts true x s = stops
-acts false x s = done (s .rest .1) (record { names = writes x (s .names); rest = changes (x .origin) (x .hand) (s .rest) })
-
-unfoldable pub bench : Bool → Meaning ℕ Bench
-bench read = record {
+unfoldable pub bench : Meaning ℕ Bench → Meaning ℕ Bench
+bench free = record {
   undefined = 0;
   constant = λ x. lastOr 0 (x .hand);
-  reads = λ x s. looks (x .origin) (s .rest);
-  chooses = λ x s. eqb (s .rest .1) 0;
-  acts = λ x s. cond (unshown (x .origin) (x .hand)) (resets read s) (acts (halts (x .origin) (x .hand)) x s);
+  reads = λ x s. cond (isFree (x .origin) (x .hand)) (free .reads x s) (looks (x .origin) (s .rest));
+  chooses = λ x s. cond (isFree (x .origin) (x .hand)) (free .chooses x s) (eqb (s .rest .1) 0);
+  acts = λ x s. cond (isFree (x .origin) (x .hand)) (free .acts x s) (acts (halts (x .origin) (x .hand)) x s);
 }
 
 abbrev pub start : Store ℕ Bench
@@ -157,13 +154,13 @@ storeOf (done w s) u = s
 storeOf stops u = u
 
 -- what a run comes to, computed
-unfoldable runs : Tree → Role → State ℕ Bench → Out ℕ Bench (Given ℕ)
-unfolding cleared isMarked isMember isDelete form order childless isName isChain isPlain isAssignment choiceOf firstRole originOf bind takes then isRead kept listed acted caught gathered chosen inTurn stepped queued held goesOn own beside finished runNode run firstOr lastOr set flagsOf callee looks changes halts isTargetOf aims throughBy writes isDirect unshown resets acts bench
-runs t role s = run facts (bench true) t role s
+unfoldable runs : Meaning ℕ Bench → Tree → Role → State ℕ Bench → Out ℕ Bench (Given ℕ)
+unfolding cleared isMarked isMember isDelete form order childless isName isChain isPlain isAssignment choiceOf firstRole originOf bind takes then isRead kept listed acted caught gathered chosen inTurn stepped queued held goesOn own beside finished runNode run firstOr lastOr set flagsOf callee looks changes halts isTargetOf aims throughBy writes isDirect isFree acts bench
+runs free t role s = run facts (bench free) t role s
 
-unfoldable ran-of : File → Ran ℕ Bench
+unfoldable ran-of : Meaning ℕ Bench → File → Ran ℕ Bench
 unfolding runs sets binds declaresBare declaresWith runDeclarator runDeclarators gives runStatement runStatements whole ran begin runFile
-ran-of f = runFile (bench true) f start
+ran-of free f = runFile (bench free) f start
 
 -- a choice between two values, of which the test says that it is the second
 second : (b : Bool) (w u : ℕ) → b ≡ false → cond b w u ≡ u
@@ -175,16 +172,16 @@ either true w u u′ e = refl
 either false w u u′ e = e
 
 -- what a file makes, computed
-unfoldable pub made : File → Step ℕ → Bool
-unfolding cleared isMarked isMember isDelete form order childless isChain isPlain isAssignment choiceOf firstRole originOf kept takes then isRead flagsOf sort sameBeside isNothing besideOf mayKeep valuesOf inHand isMarkedStep some makesOwn asks someTurn roleNumber sameOrigin isUsing makesHere makesIn makesMarked makesDeclarator makesStatement makes
-made f x = makesAct f x
+unfoldable pub made : Asked → File → Step ℕ → Bool
+unfolding cleared isMarked isMember isDelete form order childless isChain isPlain isAssignment choiceOf firstRole originOf kept takes then isRead flagsOf sortOf sameBeside isNothing besideOf mayKeep areValues mayHave isMarkedStep isMade some makesOwn asks someTurn roleNumber sameOrigin isUsing makesHere makesIn makesMarked makesDeclarator makesStatement makes
+made d f x = makes d f x
 
 -- Before and after the folded call `o.x` holds 40.
-kept-here : (read : Bool) → FoldKeeps facts (bench read) start (record { name = 0; initializer = call 1; into = assigned (name 0); before = declaration Const [] ∷ [] })
+kept-here : (free : Meaning ℕ Bench) → FoldKeeps facts (bench free) start (record { name = 0; initializer = call 1; into = assigned (name 0); before = declaration Const [] ∷ [] })
 unfolding runs stateOf valueOf runDeclarators runStatement runStatements begin
-kept-here read s s′ x before through-it =
+kept-here free s s′ x before through-it =
     let here : begin start ≡ s = ap stateOf before in
-    let there : _≡_ {A = ℕ} 40 (s′ .store .rest .0) = ap (λ o. stateOf o .store .rest .0) (subst (λ u. run facts (bench read) (call 1) value u ≡ gave x s′) (sym here) through-it) in
+    let there : _≡_ {A = ℕ} 40 (s′ .store .rest .0) = ap (λ o. stateOf o .store .rest .0) (subst (λ u. run facts (bench free) (call 1) value u ≡ gave x s′) (sym here) through-it) in
     let same : s .store .rest .0 ≡ s′ .store .rest .0 = ap (λ u. u .store .rest .0) (sym here) ∙ there in
     ((λ p q r y y′ u u′ e e′. ap valueOf (sym e) ∙ same ∙ ap valueOf e′), (((λ p q r. absurd (false≢true p)), ((tt, tt), tt)), ((tt, tt), tt)))
 
@@ -194,12 +191,8 @@ unfolding acts writes
 alike-by true a x s s′ h = both-stop
 alike-by false a x s s′ h = both-done (record { names = λ n e. either (through n x) _ _ _ (h .names n e); rest = refl })
 
-alike : (read u : Bool) (a : ℕ) (x : Step ℕ) (s s′ : Store ℕ Bench) → (u ≡ true → read ≡ false) → AgreeBut a s s′
-    → ActsAlike a (cond u (resets read s) (acts (halts (x .origin) (x .hand)) x s)) (cond u (resets read s′) (acts (halts (x .origin) (x .hand)) x s′))
-alike read true a x s s′ k h = rw (k refl) (unfold resets in both-done (record { names = λ n e. refl; rest = h .rest }))
-alike read false a x s s′ k h =
-    subst (λ r. ActsAlike a (acts (halts (x .origin) (x .hand)) x s) (acts (halts (x .origin) (x .hand)) x (record { names = s′ .names; rest = r }))) (h .rest)
-    (alike-by (halts (x .origin) (x .hand)) a x s s′ h)
+alike : (b : Bool) (a : ℕ) (x : Step ℕ) (s s′ : Store ℕ Bench) → AgreeBut a s s′ → ActsAlike a (acts b x s) (acts b x s′)
+alike b a x s s′ h = subst (λ r. ActsAlike a (acts b x s) (acts b x (record { names = s′ .names; rest = r }))) (h .rest) (alike-by b a x s s′ h)
 
 -- A step through nothing of a name doesn't write it.
 unwritten-by : (b : Bool) (a : ℕ) (x : Step ℕ) (s : Store ℕ Bench) → through a x ≡ false → storeOf (acts b x s) s .names a ≡ s .names a
@@ -207,60 +200,101 @@ unfolding acts storeOf writes
 unwritten-by true a x s e = refl
 unwritten-by false a x s e = second (through a x) _ _ e
 
--- The facts are true for statements that make no direct eval, and no kind 6 statement's step that reads v.
-module _ (ss : List Statement) (bareless : (o : Origin) (w : ℕ) (hs : List (Given ℕ)) → makesAct (fileOf facts ss) (record { origin = o; hand = record { value = w; beside = bareEval } ∷ hs }) ≡ false) where
+-- what is asked of a step or choice that is as the other meaning has it: it doesn't read a name
+abbrev pub Unread : Meaning ℕ Bench → Asked → Step ℕ → Type 0
+Unread free choice x = (a : ℕ) (s s′ : Store ℕ Bench) → AgreeBut a s s′ → free .chooses x s ≡ free .chooses x s′
+Unread free (step false) x = (a : ℕ) (s s′ : Store ℕ Bench) → AgreeBut a s s′ → free .reads x s ≡ free .reads x s′
+Unread free (step true) x = (a : ℕ) (s s′ : Store ℕ Bench) → AgreeBut a s s′ → ActsAlike a (free .acts x s) (free .acts x s′)
+
+-- The facts are true for statements that make no direct eval, and no declarator's or kind 6 statement's step that reads a name.
+module _ (free : Meaning ℕ Bench) (ss : List Statement)
+    (no-eval : (d : Asked) (o : Origin) (w : ℕ) (hs : List (Given ℕ)) → makes d (fileOf facts ss) (record { origin = o; hand = record { value = w; beside = bareEval } ∷ hs }) ≡ false)
+    (unread : (d : Asked) (x : Step ℕ) → makes d (fileOf facts ss) x ≡ true → isOfNode (x .origin) ≡ false → Unread free d x) where
   abbrev f : File
   f = fileOf facts ss
 
-  no-direct : (o : Origin) (w : ℕ) (b : Beside ℕ) (hs : List (Given ℕ)) → makesAct f (record { origin = o; hand = record { value = w; beside = b } ∷ hs }) ≡ true → isDirect b ≡ false
+  no-direct : (d : Asked) (o : Origin) (w : ℕ) (b : Beside ℕ) (hs : List (Given ℕ)) → makes d f (record { origin = o; hand = record { value = w; beside = b } ∷ hs }) ≡ true → isDirect b ≡ false
   unfolding isDirect
-  no-direct o w nothing hs e = refl
-  no-direct o w bareEval hs e = sym e ∙ bareless o w hs
-  no-direct o w (targetName a) hs e = refl
-  no-direct o w (opaqueTarget l) hs e = refl
-  no-direct o w (member v k) hs e = refl
+  no-direct d o w nothing hs e = refl
+  no-direct d o w bareEval hs e = sym e ∙ no-eval d o w hs
+  no-direct d o w (targetName a) hs e = refl
+  no-direct d o w (opaqueTarget l) hs e = refl
+  no-direct d o w (member v k) hs e = refl
 
-  shown : (o : Origin) (hs : List (Given ℕ)) → makesAct f (record { origin = o; hand = hs }) ≡ true → isOfNode o ≡ true → unshown o hs ≡ false
-  unfolding unshown isDirect firstOr isOfNode
-  shown (ofNode kind label flags role) [] e n = refl
-  shown (ofNode kind label flags role) (h ∷ hs) e n = no-direct (ofNode kind label flags role) (h .value) (h .beside) hs e
-  shown (ofDeclarator k a) hs e n = refl
-  shown ofOther hs e n = sym n
+  -- a node's step is as it is here
+  bound : (d : Asked) (o : Origin) (hs : List (Given ℕ)) → makes d f (record { origin = o; hand = hs }) ≡ true → isOfNode o ≡ true → isFree o hs ≡ false
+  unfolding isFree isDirect firstOr isOfNode
+  bound d (ofNode kind label flags role) [] e n = refl
+  bound d (ofNode kind label flags role) (h ∷ hs) e n = no-direct d (ofNode kind label flags role) (h .value) (h .beside) hs e
+  bound d (ofDeclarator k a) hs e n = sym n
+  bound d ofOther hs e n = sym n
 
-  unread : (read : Bool) → (read ≡ true → (hs : List (Given ℕ)) → makesAct f (record { origin = ofOther; hand = hs }) ≡ false)
-      → (o : Origin) (hs : List (Given ℕ)) → makesAct f (record { origin = o; hand = hs }) ≡ true → unshown o hs ≡ true → read ≡ false
-  unread false h o hs e u = refl
-  unread true h (ofNode kind label flags role) hs e u = sym u ∙ shown (ofNode kind label flags role) hs e (unfold isOfNode in refl)
-  unread true h (ofDeclarator k a) hs e u = unfold unshown in sym u
-  unread true h ofOther hs e u = sym e ∙ h refl hs
+  free-unread : (d : Asked) (x : Step ℕ) → makes d f x ≡ true → isFree (x .origin) (x .hand) ≡ true → Unread free d x
+  free-unread d x k u = by (isOfNode (x .origin)) refl
+    where
+      by : (n : Bool) → isOfNode (x .origin) ≡ n → Unread free d x
+      by true e = absurd (false≢true (sym (bound d (x .origin) (x .hand) k e) ∙ u))
+      by false e = unread d x k e
 
-  unwritten : (read : Bool) (a : ℕ) (x : Step ℕ) → makesAct f x ≡ true → isOfNode (x .origin) ≡ true → through a x ≡ false → (s s′ : Store ℕ Bench) (w : ℕ) → bench read .acts x s ≡ done w s′ → s′ .names a ≡ s .names a
+  reads-alike : (a : ℕ) (x : Step ℕ) → makes (step false) f x ≡ true → (s s′ : Store ℕ Bench) → AgreeBut a s s′ → bench free .reads x s ≡ bench free .reads x s′
+  unfolding bench
+  reads-alike a x k s s′ g = by (isFree (x .origin) (x .hand)) refl
+    where
+      by : (u : Bool) → isFree (x .origin) (x .hand) ≡ u → cond u (free .reads x s) (looks (x .origin) (s .rest)) ≡ cond u (free .reads x s′) (looks (x .origin) (s′ .rest))
+      by true e = free-unread (step false) x k e a s s′ g
+      by false e = ap (looks (x .origin)) (g .rest)
+
+  chooses-alike : (a : ℕ) (x : Step ℕ) → makes choice f x ≡ true → (s s′ : Store ℕ Bench) → AgreeBut a s s′ → bench free .chooses x s ≡ bench free .chooses x s′
+  unfolding bench
+  chooses-alike a x k s s′ g = by (isFree (x .origin) (x .hand)) refl
+    where
+      by : (u : Bool) → isFree (x .origin) (x .hand) ≡ u → cond u (free .chooses x s) (eqb (s .rest .1) 0) ≡ cond u (free .chooses x s′) (eqb (s′ .rest .1) 0)
+      by true e = free-unread choice x k e a s s′ g
+      by false e = ap (λ r. eqb (r .1) 0) (g .rest)
+
+  acts-alike : (a : ℕ) (x : Step ℕ) → makes (step true) f x ≡ true → (s s′ : Store ℕ Bench) → AgreeBut a s s′ → ActsAlike a (bench free .acts x s) (bench free .acts x s′)
+  unfolding bench
+  acts-alike a x k s s′ g = by (isFree (x .origin) (x .hand)) refl
+    where
+      by : (u : Bool) → isFree (x .origin) (x .hand) ≡ u → ActsAlike a (cond u (free .acts x s) (acts (halts (x .origin) (x .hand)) x s)) (cond u (free .acts x s′) (acts (halts (x .origin) (x .hand)) x s′))
+      by true e = free-unread (step true) x k e a s s′ g
+      by false e = alike (halts (x .origin) (x .hand)) a x s s′ g
+
+  unwritten : (a : ℕ) (x : Step ℕ) → makes (step true) f x ≡ true → isOfNode (x .origin) ≡ true → through a x ≡ false → (s s′ : Store ℕ Bench) (w : ℕ) → bench free .acts x s ≡ done w s′ → s′ .names a ≡ s .names a
   unfolding bench storeOf
-  unwritten read a x k n e s s′ w h = ap (λ act. storeOf act s .names a) (sym (rw (shown (x .origin) (x .hand) k n) at h)) ∙ unwritten-by (halts (x .origin) (x .hand)) a x s e
+  unwritten a x k n e s s′ w h = ap (λ act. storeOf act s .names a) (sym (rw (bound (step true) (x .origin) (x .hand) k n) at h)) ∙ unwritten-by (halts (x .origin) (x .hand)) a x s e
 
-  pub true-of : (read : Bool) → (read ≡ true → (hs : List (Given ℕ)) → makesAct f (record { origin = ofOther; hand = hs }) ≡ false) → Facts f trace (bench read) start
-  unfolding bench looks
-  true-of read unmade = record {
-    reads-hidden = λ a h x k e s s′ g. ap (looks (x .origin)) (g .rest);
-    chooses-hidden = λ a h x k e s s′ g. ap (λ r. eqb (r .1) 0) (g .rest);
-    acts-hidden = λ a h x k e s s′ g. alike read (unshown (x .origin) (x .hand)) a x s s′ (unread read unmade (x .origin) (x .hand) k) g;
-    writes-hidden = λ a h x k n e s s′ w g. unwritten read a x k n e s s′ w g;
-    settled-kept = λ a h x k n e s s′ w g. unwritten read a x k n e s s′ w g;
-    this-kept = λ h x k n s s′ w g label flags i. refl;
-    targets-kept = (kept-here read, tt);
+  this-fixed : (label flags : ℕ) (s s′ : Store ℕ Bench) → bench free .reads (thisStep label flags) s′ ≡ bench free .reads (thisStep label flags) s
+  unfolding bench looks isFree isDirect firstOr
+  this-fixed label flags s s′ = refl
+
+  pub true-of : Facts f trace (bench free) start
+  true-of = record {
+    reads-hidden = λ a h x k e s s′ g. reads-alike a x k s s′ g;
+    chooses-hidden = λ a h x k e s s′ g. chooses-alike a x k s s′ g;
+    acts-hidden = λ a h x k e s s′ g. acts-alike a x k s s′ g;
+    writes-hidden = λ a h x k n e s s′ w g. unwritten a x k n e s s′ w g;
+    settled-kept = λ a h x k n e s s′ w g. unwritten a x k n e s s′ w g;
+    this-kept = λ h x k n s s′ w g label flags i. this-fixed label flags s s′;
+    targets-kept = (kept-here free, tt);
   }
 
--- The file makes no direct eval and no kind 6 statement's step.
-no-bare : (o : Origin) (w : ℕ) (hs : List (Given ℕ)) → makesAct script (record { origin = o; hand = record { value = w; beside = bareEval } ∷ hs }) ≡ false
+-- The file makes no direct eval, and no step of a pattern, a using or a kind 6 statement; so its facts are true whatever these do.
+script-no-eval : (d : Asked) (o : Origin) (w : ℕ) (hs : List (Given ℕ)) → makes d script (record { origin = o; hand = record { value = w; beside = bareEval } ∷ hs }) ≡ false
 unfolding made
-no-bare o w hs = refl
+script-no-eval choice o w hs = refl
+script-no-eval (step b) o w hs = refl
 
-no-other : (hs : List (Given ℕ)) → makesAct script (record { origin = ofOther; hand = hs }) ≡ false
-unfolding made
-no-other hs = simp and-false
+nodes-alone : (d : Asked) (o : Origin) (hs : List (Given ℕ)) → isOfNode o ≡ false → makes d script (record { origin = o; hand = hs }) ≡ false
+unfolding made isOfNode
+nodes-alone d (ofNode kind label flags role) hs e = absurd (false≢true (sym e))
+nodes-alone choice (ofDeclarator k a) hs e = simp and-false
+nodes-alone (step b) (ofDeclarator k a) hs e = simp and-false
+nodes-alone choice ofOther hs e = simp and-false
+nodes-alone (step b) ofOther hs e = simp and-false
 
-pub met : Facts script trace (bench true) start
-met = true-of statements no-bare true (λ e. no-other)
+pub met : (free : Meaning ℕ Bench) → Facts script trace (bench free) start
+met free = true-of free statements script-no-eval (λ d x k e. absurd (false≢true (sym (nodes-alone d (x .origin) (x .hand) e) ∙ k)))
 
 -- The file is accepted, this is its fold, and it has none of the four shapes.
 pub accepted : refusal (print script) 1000 ≡ 0
@@ -283,13 +317,13 @@ did kind flags hs = record { origin = ofNode kind 0 flags value; hand = hs }
 abbrev steps-made : List (Step ℕ)
 steps-made = did 14 1 (only 11 ∷ []) ∷ did 20 0 (record { value = 40; beside = member 13 (static 7) } ∷ only 0 ∷ []) ∷ did 14 1 (only 12 ∷ []) ∷ []
 
-script-steps : runFile (bench true) script start .steps ≡ steps-made
+script-steps : (free : Meaning ℕ Bench) → runFile (bench free) script start .steps ≡ steps-made
 unfolding ran-of
-script-steps = refl
+script-steps free = refl
 
-result-steps : runFile (bench true) result start .steps ≡ steps-made
+result-steps : (free : Meaning ℕ Bench) → runFile (bench free) result start .steps ≡ steps-made
 unfolding ran-of
-result-steps = refl
+result-steps free = refl
 
 -- no name but v is folded
 not-v : (a : ℕ) → folded script result a ≡ false → eqb a 0 ≡ false
@@ -301,11 +335,11 @@ not-v a e = ne-eqb a 0 (λ z. eqb-false 0 a (two (eqb 0 a) e) (sym z))
     two false h = refl
 
 -- The two runs are the same.
-pub same : SameRun script result (runFile (bench true) script start) (runFile (bench true) result start)
+pub same : (free : Meaning ℕ Bench) → SameRun script result (runFile (bench free) script start) (runFile (bench free) result start)
 unfolding ran-of
-same = record { steps = refl; values = refl; end = both-ended (λ a e. second (eqb a 0) _ _ (not-v a e)) refl }
+same free = record { steps = refl; values = refl; end = both-ended (λ a e. second (eqb a 0) _ _ (not-v a e)) refl }
 
 -- The call of `g`, of the same kind, label and flags as that of `f`, changes what `o.x` gives.
-changed-by-g : (valueOf (run facts (bench true) property target (begin start)) ≡ 40) × (valueOf (run facts (bench true) property target (stateOf (run facts (bench true) (call 2) value (begin start)))) ≡ 90)
+changed-by-g : (free : Meaning ℕ Bench) → (valueOf (run facts (bench free) property target (begin start)) ≡ 40) × (valueOf (run facts (bench free) property target (stateOf (run facts (bench free) (call 2) value (begin start)))) ≡ 90)
 unfolding runs stateOf valueOf begin
-changed-by-g = (refl, refl)
+changed-by-g free = (refl, refl)

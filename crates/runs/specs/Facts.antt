@@ -59,7 +59,7 @@ throughBy a ofOther hs = false
 abbrev pub through : {Value : Type 0} → ℕ → Step Value → Bool
 through a x = throughBy a (x .origin) (x .hand)
 
--- A node's step. Those of declarators and of kind 6 statements "may also bind names": what they set, nothing is said of.
+-- A node's step. Those of declarators and of kind 6 statements "may also bind names"; of what they set nothing is said.
 unfoldable pub isOfNode : Origin → Bool
 isOfNode (ofNode kind label flags role) = true
 isOfNode (ofDeclarator k name) = false

@@ -1,4 +1,4 @@
--- What a step can have in hand, with any values: `beside`, `kept` and `runOthers` of Run.
+-- What a step can have in hand, with any values. It follows `beside`, `kept` and `runOthers` of Run.
 use Prim.Native.Nat.{ℕ}
 use mathlib.Core.Bool.{Bool, true, false, cond, _&&_, _||_, not}
 use mathlib.Core.List.{List, [], _∷_}
@@ -13,20 +13,20 @@ use Rattle.runs.specs.Form.{is, cleared, form, childless}
 use Rattle.runs.specs.Run.{Turn, takes, then, kept}
 
 -- what is beside a value, with the values in it left out: its sort, and its label
-unfoldable pub sort : {Value : Type 0} → Beside Value → ℕ × ℕ
-sort nothing = (0, 0)
-sort bareEval = (1, 0)
-sort (targetName a) = (2, a)
-sort (opaqueTarget l) = (3, l)
-sort (member o (static l)) = (4, l)
-sort (member o (private l)) = (5, l)
-sort (member o (computed w)) = (6, 0)
+unfoldable pub sortOf : {Value : Type 0} → Beside Value → ℕ × ℕ
+sortOf nothing = (0, 0)
+sortOf bareEval = (1, 0)
+sortOf (targetName a) = (2, a)
+sortOf (opaqueTarget l) = (3, l)
+sortOf (member o (static l)) = (4, l)
+sortOf (member o (private l)) = (5, l)
+sortOf (member o (computed w)) = (6, 0)
 
 unfoldable pub sameBeside : {A B : Type 0} → Beside A → Beside B → Bool
-sameBeside b c = eqb (sort b .0) (sort c .0) && eqb (sort b .1) (sort c .1)
+sameBeside b c = eqb (sortOf b .0) (sortOf c .0) && eqb (sortOf b .1) (sortOf c .1)
 
 unfoldable pub isNothing : {Value : Type 0} → Beside Value → Bool
-isNothing b = eqb (sort b .0) 0
+isNothing b = eqb (sortOf b .0) 0
 
 -- What a tree gives beside its value, and what a node has in hand of its first child beside the child's value, with the values
 -- in it left out. A chain hands on what it has in hand.
@@ -46,21 +46,23 @@ unfoldable mutual
   keptOf names n none = nothing
   keptOf names n (more t ts) = kept (form n) n (besideOf names t)
 
--- what a node can have in hand of its first child beside the child's value; nothing of a chain that was cut short
+-- what a node can have in hand of its first child beside the child's value: also nothing, if this is a chain, which may have
+-- been cut short
 unfoldable pub mayKeep : {Value : Type 0} → List NameFacts → Node → Tree → Beside Value → Bool
 mayKeep names n t b = sameBeside (kept (form n) n (besideOf names t)) b || is 13 (root t) && isNothing b
 
 module _ {Value : Type 0} where
-  -- the values of those of these trees that run
-  unfoldable pub valuesOf : Turn → Trees → Hand Value → Bool
-  valuesOf w none [] = true
-  valuesOf w none (h ∷ hs) = false
-  valuesOf w (more t ts) [] = not (takes w) && valuesOf (then w) ts []
-  valuesOf w (more t ts) (h ∷ hs) = cond (takes w) (isNothing (h .beside) && valuesOf (then w) ts hs) (valuesOf (then w) ts (h ∷ hs))
+  -- whether these are the values of those of the trees that run
+  unfoldable pub areValues : Turn → Trees → Hand Value → Bool
+  areValues w none [] = true
+  areValues w none (h ∷ hs) = false
+  areValues w (more t ts) [] = not (takes w) && areValues (then w) ts []
+  areValues w (more t ts) (h ∷ hs) = cond (takes w) (isNothing (h .beside) && areValues (then w) ts hs) (areValues (then w) ts (h ∷ hs))
 
-  -- what a node over these children can have in hand when the first has run, and those of the others that run
-  unfoldable pub inHand : List NameFacts → Node → Turn → Trees → Hand Value → Bool
-  inHand names n w none [] = true
-  inHand names n w none (h ∷ hs) = false
-  inHand names n w (more t ts) [] = childless (form n)
-  inHand names n w (more t ts) (h ∷ hs) = mayKeep names n t (h .beside) && valuesOf w ts hs
+  -- what a node over these children can have in hand when the first has run, and those of the others that run; a kind without
+  -- children has nothing
+  unfoldable pub mayHave : List NameFacts → Node → Turn → Trees → Hand Value → Bool
+  mayHave names n w none [] = true
+  mayHave names n w none (h ∷ hs) = false
+  mayHave names n w (more t ts) [] = childless (form n)
+  mayHave names n w (more t ts) (h ∷ hs) = mayKeep names n t (h .beside) && areValues w ts hs

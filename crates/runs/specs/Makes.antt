@@ -1,4 +1,4 @@
--- The steps and choices that a file can make: all that a run of it comes to, whichever way choices go, with any values in
+-- The steps and choices that a file can make: all that a run of it can come to, whichever way choices go, with any values in
 -- hand; any chain counts as one that may be cut short. The definitions follow Run and Script. The facts are asked of these
 -- alone; that none is missing is part of the proof of demand 3.
 use Prim.Native.Nat.{ℕ}
@@ -13,7 +13,7 @@ use Rattle.runs.specs.Step.{Role, value, target, deleted, Origin, ofNode
 use Rattle.runs.specs.Form.{cleared, isMarked, Choice, never, logical, conditional, optionally, Form, constant, name, targetName, leaf, chain, property, importing, sequence, assignment, stepping, form, choiceOf, firstRole, originOf}
 use Rattle.runs.specs.Run.{Turn, all, skipped, second, third, resolved, isRead}
 use Rattle.runs.specs.Script.{isPattern}
-use Rattle.runs.specs.InHand.{valuesOf, inHand}
+use Rattle.runs.specs.InHand.{areValues, mayHave}
 
 -- What a meaning is asked: which way a choice goes; what a step does, marked or not.
 pub data Asked : Type 0 where
@@ -24,11 +24,11 @@ unfoldable pub isMarkedStep : Asked → Bool
 isMarkedStep choice = false
 isMarkedStep (step marked) = marked
 
-unfoldable pub isChoice : Choice → Bool
-isChoice never = false
-isChoice logical = true
-isChoice conditional = true
-isChoice optionally = true
+unfoldable pub isMade : Choice → Bool
+isMade never = false
+isMade logical = true
+isMade conditional = true
+isMade optionally = true
 
 -- Whether a node makes a step of its own that is marked, or one that only reads, as an import's does: `own`, row by row. It
 -- makes none where it gives a constant, what the store holds, or what a child gave.
@@ -45,10 +45,11 @@ makesOwn marked names (assignment c) n role = marked
 makesOwn marked names (stepping c) n role = Bool·beq marked (isMarked n)
 
 unfoldable pub asks : Asked → List NameFacts → Form → Node → Role → Bool
-asks choice names f n role = isChoice (choiceOf f)
+asks choice names f n role = isMade (choiceOf f)
 asks (step marked) names f n role = makesOwn marked names f n role
 
--- which children behind the first have run when a node is asked this: at a choice none, at a step those chosen
+-- whether a test holds of a turn that the children behind the first can have taken when the meaning is asked this: at a
+-- choice none of them has run, at a step those chosen
 unfoldable pub someTurn : Asked → Choice → (Turn → Bool) → Bool
 someTurn choice c test = test skipped
 someTurn (step marked) never test = test all
@@ -84,7 +85,7 @@ module _ {Value : Type 0} (names : List NameFacts) (d : Asked) (x : Step Value) 
   -- by a node over these children, evaluated for this
   unfoldable pub makesHere : Node → Role → Trees → Bool
   makesHere n role kids =
-      someTurn d (choiceOf (form n)) (λ w. inHand names n w kids (x .hand)) && asks d names (form n) n role && sameOrigin (originOf n role) (x .origin)
+      someTurn d (choiceOf (form n)) (λ w. mayHave names n w kids (x .hand)) && asks d names (form n) n role && sameOrigin (originOf n role) (x .origin)
 
   -- in a tree; in a row of trees, of which the first is evaluated for this and the others for their values
   unfoldable mutual
@@ -97,7 +98,7 @@ module _ {Value : Type 0} (names : List NameFacts) (d : Asked) (x : Step Value) 
 
   -- as a marked step of this origin, with the values of these trees in hand
   unfoldable pub makesMarked : Origin → Trees → Bool
-  makesMarked o ts = valuesOf all ts (x .hand) && isMarkedStep d && sameOrigin o (x .origin)
+  makesMarked o ts = areValues all ts (x .hand) && isMarkedStep d && sameOrigin o (x .origin)
 
   -- "Any using makes a marked step"; "a pattern with an initializer .. makes a marked step"
   unfoldable pub makesDeclarator : DeclarationKind → ℕ → Initializer → Bool

@@ -13,7 +13,8 @@ pub record Meaning (Value Rest : Type 0) : Type 0 where
   -- the value of a bare let, and of a chain that is cut short
   pub undefined : Value
   -- "Literals and functions don't read the store" (1, 2; ECMA-262 13.2.3.1, 15.2.6). Nor does an elision (27), which does
-  -- nothing (13.2.4.1), nor a property of one child (26), which defines a property of a fresh object (13.2.5.5).
+  -- nothing (13.2.4.1), nor a property of one child (26), which defines a property of a fresh object (13.2.5.5): demand 3
+  -- needs this, and document 01 doesn't state it.
   pub constant : Step Value → Value
   -- "an unmarked one reads only"
   pub reads : Step Value → Store Value Rest → Value

@@ -3,8 +3,8 @@ use mathlib.Core.List.{List}
 use Rattle.runs.specs.Store.{Store}
 use Rattle.runs.specs.Step.{Step}
 
--- "The list holds marked steps and import steps in the order made", here the last one first; so do the values that
--- statements gave.
+-- "The list holds marked steps and import steps in the order made", here the last one first; the values that statements gave
+-- stand the same way.
 pub record Log (Value : Type 0) : Type 0 where
   pub steps : List (Step Value)
   pub values : List Value
