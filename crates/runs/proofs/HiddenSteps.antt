@@ -1,6 +1,7 @@
 -- Files with a direct eval, a pattern or a kind 6 statement, and a meaning in which these set every name, and read v or don't.
--- Where they read v, the facts aren't true of a file that has such a call or statement; asked of every step, and not of the
--- file's alone, they would be true of no file. Where they only set names, they are. Assumes nothing.
+-- Where they read v, the facts aren't true of it for a file that has such a call or statement; asked of every step, and not of
+-- the file's alone, they wouldn't be for Witness's file either. Where a pattern and a kind 6 statement only set names, they
+-- are. Assumes nothing.
 use Prim.Native.Nat.{ℕ}
 use mathlib.Core.Bool.{Bool, true, false, cond}
 use mathlib.Core.List.{List, [], _∷_, _++_}
@@ -67,7 +68,7 @@ other-not-alike : Alike otherStep → ⊥
 unfolding isFree
 other-not-alike h = not-alike otherStep refl h
 
--- So asked of every step `acts-hidden` isn't true of this meaning, whatever the file.
+-- So asked of every step `acts-hidden` isn't true of this meaning, for any file in which the reads of v all stand.
 too-many : ((x : Step ℕ) → through 0 x ≡ false → Alike x) → ⊥
 unfolding throughBy
 too-many h = other-not-alike (h otherStep refl)
