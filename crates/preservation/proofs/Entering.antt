@@ -2,7 +2,7 @@
 -- initializer gives in its place it keeps the value alone.
 use Prim.Native.Nat.{ℕ}
 use mathlib.Core.Bool.{Bool, true, false, cond, _&&_, _||_}
-use mathlib.Core.Path.{_≡_, refl}
+use mathlib.Core.Path.{_≡_, refl, sym, _∙_}
 use lib.Dec.{eqb}
 use borrow.Author.Tests.{not-true}
 use Rattle.records.specs.Flags.{computed}
@@ -20,7 +20,7 @@ use Rattle.runs.specs.Step.{Role, value}
 use Rattle.runs.specs.Form.{is, cleared, isDelete, Form, chain, property, importing, sequence, stepping, never, logical, conditional, optionally, order, isChain, isPlain, isAssignment, firstRole}
 use Rattle.runs.specs.Run.{kept}
 use Rattle.preservation.proofs.Tests.{by-or, and-off, and-on, and-mid, same-cond}
-use Rattle.preservation.proofs.Tables.{choosing, formOf, shapeKinds}
+use Rattle.preservation.proofs.Tables.{choosing, formOf, shapeKinds, or-assoc}
 use Rattle.preservation.proofs.ByKind.{other-kind, chain-child as link-below}
 
 undelete : (n : Node) → is 9 n ≡ false → isDelete (cleared n) ≡ false
@@ -67,6 +67,7 @@ module _ (v : ℕ) (r : Tree) where
   abbrev pub spills : Tree → Bool
   spills t = isSpecificId v (root t) && isMemberTag r
 
+  -- what is known of a node over its first child, where the search enters this
   pub record Entering (f : Form) (n : Node) (t : Tree) : Type 0 where
     pub uncalled : (is 14 n && spills t) ≡ false
     pub untagged : (is 24 n && spills t) ≡ false
@@ -109,13 +110,7 @@ module _ (v : ℕ) (r : Tree) where
   chain-child n t ts e h = not-name (root t) (link-below n t ts e h)
     where
       not-name : (k : Node) → isLink (k .kind) ≡ true → (is 4 k && eqb (k .label) v) ≡ false
-      not-name k g = rw (link-not k 4 (regrouped (is 10 k) (is 11 k) (is 12 k) (is 14 k) g) refl refl refl refl)
-        where
-          regrouped : (a b c d : Bool) → (a || b || c || d) ≡ true → ((a || b || c) || d) ≡ true
-          regrouped true b c d e = refl
-          regrouped false true c d e = refl
-          regrouped false false true d e = refl
-          regrouped false false false d e = e
+      not-name k g = rw (link-not k 4 (sym (or-assoc (is 10 k) (is 11 k) (is 12 k) (is 14 k)) ∙ g) refl refl refl refl)
 
   of-chain : (n : Node) (t : Tree) (ts : Trees) → is 13 n ≡ true → standUnder n 0 (more t ts) ≡ true → Entering chain (cleared n) t
   unfolding isAssignment isChain order
