@@ -115,7 +115,7 @@ module _ {Value Rest : Type 0} (σ : Setting Value Rest) where
   quiet-other n ts (a, b, c, d, e) = (off-read v n ts b, off-target v n ts c)
 
   -- `this`
-  leaf-run : (n : Node) (cs : S → O (List (Given Value))) (u : S) → isMarked n ≡ false → runNode names m leaf n value cs u ≡ gave (record { value = m .reads (stepOf n value []) (u .store); beside = beside names m leaf n [] }) u
+  leaf-run : (n : Node) (cs : S → O (List (Given Value))) (u : S) → isMarked n ≡ false → runNode names m leaf n value cs u ≡ gave (record { value = m .reads (stepOf n value []) (u .store); beside = beside names (m .undefined) leaf n [] }) u
   unfolding runNode gathered childless order finished own bind
   leaf-run n cs u e = rw e (unfold stepped in refl)
 
@@ -129,10 +129,10 @@ module _ {Value Rest : Type 0} (σ : Setting Value Rest) where
       let x : Step Value = stepOf n value [] in
       let x₅ : Step Value = record { origin = ofNode 5 (n .label) (n .flags) value; hand = [] } in
       let z : x ≡ x₅ = this-step n g in
-      steady (λ u. record { value = m .reads x u; beside = beside names m leaf n [] }) (λ u. leaf-run n cs u e)
-      (λ a u. ap (λ w. record { value = w; beside = beside names m leaf n [] }) (blind .reads x (off-through v n value [] (λ q. clash (is 4 n) (other-kind n 5 4 g refl) q) (λ q. clash (is 29 n) (other-kind n 5 29 g refl) q) refl) u a))
+      steady (λ u. record { value = m .reads x u; beside = beside names (m .undefined) leaf n [] }) (λ u. leaf-run n cs u e)
+      (λ a u. ap (λ w. record { value = w; beside = beside names (m .undefined) leaf n [] }) (blind .reads x (off-through v n value [] (λ q. clash (is 4 n) (other-kind n 5 4 g refl) q) (λ q. clash (is 29 n) (other-kind n 5 29 g refl) q) refl) u a))
       (ends-map (kept-by names m v there (λ u. m .reads x₅ u ≡ m .reads x₅ (s .store)) (λ y i q u u′ w k p. this-kept h y i u u′ w k (n .label) (n .flags) ∙ p) r unaimed value s refl)
-      (λ y s′ p. ap (λ w. record { value = w; beside = beside names m leaf n [] }) (ap (λ x. m .reads x (s′ .store)) z ∙ p ∙ ap (λ x. m .reads x (s .store)) (sym z))) (λ s′ p. tt) (λ p. p))
+      (λ y s′ p. ap (λ w. record { value = w; beside = beside names (m .undefined) leaf n [] }) (ap (λ x. m .reads x (s′ .store)) z ∙ p ∙ ap (λ x. m .reads x (s .store)) (sym z))) (λ s′ p. tt) (λ p. p))
 
   as-leaf : {s : S} (f : Form) (n : Node) (cs : S → O (List (Given Value))) → f ≡ leaf → Why s (runNode names m leaf n value cs) → Why s (runNode names m f n value cs)
   as-leaf f n cs e y = rw e y
@@ -228,27 +228,27 @@ module _ {Value Rest : Type 0} (σ : Setting Value Rest) where
   ends-from (cut s) h = cuts tt
   ends-from (stop l) h = halts tt
 
-  member-run : (n : Node) (cs : S → O (List (Given Value))) (hs : List (Given Value)) (u : S) → isMarked n ≡ false → cs u ≡ gave hs u → runNode names m (stepping never) n target cs u ≡ gave (record { value = m .reads (stepOf n target hs) (u .store); beside = beside names m (stepping never) n hs }) u
+  member-run : (n : Node) (cs : S → O (List (Given Value))) (hs : List (Given Value)) (u : S) → isMarked n ≡ false → cs u ≡ gave hs u → runNode names m (stepping never) n target cs u ≡ gave (record { value = m .reads (stepOf n target hs) (u .store); beside = beside names (m .undefined) (stepping never) n hs }) u
   unfolding runNode gathered childless isChain order finished own bind
   member-run n cs hs u e g = rw (g, e) (unfold stepped in refl)
 
   member-why : {s : S} (n : Node) (cs : S → O (List (Given Value))) → isMarked n ≡ false → ((hs : List (Given Value)) → through v (stepOf n target hs) ≡ false) → (Calm σ → Why s (runNode names m (stepping never) n target cs)) → Same-value s (runNode names m (stepping never) n target cs) → Why s cs → Why s (runNode names m (stepping never) n target cs)
   member-why n cs e g c h (reading q k l) = c q
   member-why {s = s} n cs e g c h (steady ξ d i k) =
-      steady (λ u. record { value = m .reads (stepOf n target (ξ u)) u; beside = beside names m (stepping never) n (ξ u) }) (λ u. member-run n cs (ξ (u .store)) u e (d u))
+      steady (λ u. record { value = m .reads (stepOf n target (ξ u)) u; beside = beside names (m .undefined) (stepping never) n (ξ u) }) (λ u. member-run n cs (ξ (u .store)) u e (d u))
       (λ a u. rw (i a u, blind .reads (stepOf n target (ξ u)) (g (ξ u)) u a))
       (ends-map (ends-and k (ends-from (go r s) (λ x s′ z. h x s′ z _ _ s s′ (member-run n cs (ξ (s .store)) s e (d s)) (member-run n cs (ξ (s′ .store)) s′ e (d s′)))))
-      (λ x s′ p. λ j. record { value = sym (p .1) j; beside = beside names m (stepping never) n (p .0 j) }) (λ s′ p. tt) (λ p. p))
+      (λ x s′ p. λ j. record { value = sym (p .1) j; beside = beside names (m .undefined) (stepping never) n (p .0 j) }) (λ s′ p. tt) (λ p. p))
 
-  aim-run : (n : Node) (cs : S → O (List (Given Value))) (u : S) → isMarked n ≡ false → runNode names m targetName n target cs u ≡ gave (record { value = m .reads (stepOf n target []) (u .store); beside = beside names m targetName n [] }) u
+  aim-run : (n : Node) (cs : S → O (List (Given Value))) (u : S) → isMarked n ≡ false → runNode names m targetName n target cs u ≡ gave (record { value = m .reads (stepOf n target []) (u .store); beside = beside names (m .undefined) targetName n [] }) u
   unfolding runNode gathered childless order finished own bind
   aim-run n cs u e = rw (and-off (resolved names (n .label)) (isRead target) (unfold isRead in refl)) (unfold held stepped in rw e)
 
   aim-why : {s : S} (n : Node) (cs : S → O (List (Given Value))) → isMarked n ≡ false → through {Value = Value} v (stepOf n target []) ≡ false → Same-value s (runNode names m targetName n target cs) → Why s (runNode names m targetName n target cs)
   aim-why {s = s} n cs e g h =
-      steady (λ u. record { value = m .reads (stepOf n target []) u; beside = beside names m targetName n [] }) (λ u. aim-run n cs u e)
+      steady (λ u. record { value = m .reads (stepOf n target []) u; beside = beside names (m .undefined) targetName n [] }) (λ u. aim-run n cs u e)
       (λ a u. rw (blind .reads (stepOf n target []) g u a))
-      (ends-from (go r s) (λ x s′ z. ap (λ w. record { value = w; beside = beside names m targetName n [] }) (sym (h x s′ z _ _ s s′ (aim-run n cs s e) (aim-run n cs s′ e)))))
+      (ends-from (go r s) (λ x s′ z. ap (λ w. record { value = w; beside = beside names (m .undefined) targetName n [] }) (sym (h x s′ z _ _ s s′ (aim-run n cs s e) (aim-run n cs s′ e)))))
 
   -- the forms of targets
   aim-form : (n : Node) → is 29 n ≡ true → form (cleared n) ≡ targetName

@@ -51,7 +51,7 @@ module _ {Value Rest : Type 0} (names : List NameFacts) (m : Meaning Value Rest)
 
   finished-at : (p : ℕ) (f : Form) (n : Node) (role : Role) (hs : List (Given Value)) (s : State Value Rest) → finished names m f (placedAt p n) role hs s ≡ finished names m f n role hs s
   unfolding finished placedAt originOf isMember beside
-  finished-at p f n role hs s = ap (λ o. bind o (λ w s′. gave (record { value = w; beside = beside names m f n hs }) s′)) (own-at p f n role (record { origin = originOf n role; hand = hs }) s)
+  finished-at p f n role hs s = ap (λ o. bind o (λ w s′. gave (record { value = w; beside = beside names (m .undefined) f n hs }) s′)) (own-at p f n role (record { origin = originOf n role; hand = hs }) s)
 
   goesOn-at : (p : ℕ) (f : Form) (n : Node) (role : Role) (others : Turn → State Value Rest → Out Value Rest (List (Given Value))) (x : Given Value) (s : State Value Rest) → goesOn m f (placedAt p n) role others x s ≡ goesOn m f n role others x s
   unfolding goesOn originOf isMember

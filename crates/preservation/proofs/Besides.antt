@@ -2,18 +2,18 @@
 use Prim.Native.Nat.{ℕ}
 use mathlib.Core.Bool.{Bool, true, false, cond, _||_}
 use mathlib.Core.List.{List}
-use mathlib.Core.Path.{_≡_, refl, sym, ap, ap₂, _∙_}
+use mathlib.Core.Path.{_≡_, refl, sym, ap, _∙_}
 use lib.Dec.{eqb}
 use borrow.Author.Tests.{eqb-true, eq-eqb}
 use Rattle.records.specs.Flags.{isEval}
 use Rattle.records.specs.Script.{flagsOf}
-use Rattle.records.specs.Tree.{Node, Trees, node}
+use Rattle.records.specs.Tree.{Node}
 use Rattle.records.specs.declared.layout.NameFacts.{NameFacts}
 use Rattle.records.proofs.Tests.{clash, both}
-use Rattle.runs.specs.Hand.{static, private, computed, Beside, nothing, bareEval, targetName as aTarget, opaqueTarget, member}
-use Rattle.runs.specs.Form.{is, cleared, isDelete, Form, isChain, isAssignment}
-use Rattle.runs.specs.Run.{kept}
-use Rattle.runs.specs.InHand.{sortOf, sameBeside, isNothing, besideOf, keptOf}
+use Rattle.runs.specs.Hand.{static, private, computed, Beside, nothing, bareEval, targetName as aTarget, opaqueTarget, member, Hand, firstOr}
+use Rattle.runs.specs.Form.{is, isDelete, Form, isName, isChain, isAssignment}
+use Rattle.runs.specs.Run.{kept, beside}
+use Rattle.runs.specs.InHand.{sortOf, sameBeside, isNothing}
 
 pub same-sort : {A B : Type 0} (b : Beside A) (c : Beside B) → sortOf b ≡ sortOf c → sameBeside b c ≡ true
 unfolding sameBeside
@@ -78,22 +78,14 @@ pub nothing-kept : {A : Type 0} (f : Form) (n : Node) (b : Beside A) → isNothi
 unfolding isNothing keeping
 nothing-kept f n b e = ap (λ (s : ℕ × ℕ). eqb (s .0) 0) (kept-sort f n b ∙ ap (λ (s : ℕ × ℕ). cond (keeping f n (s .0)) s (0, 0)) (nothing-sort b e))
 
--- what a tree gives goes by the kind and label of its root, and for a chain by its child
-unfoldable by-root : List NameFacts → ℕ → ℕ → Beside (Unit {0}) → Beside (Unit {0})
-by-root names kind label b =
-    cond (eqb kind 4) (cond (isEval (flagsOf names label)) bareEval nothing) (cond (eqb kind 29) (aTarget label) (cond (eqb kind 30) (opaqueTarget label) (cond (eqb kind 10) (member tt (static label)) (cond (eqb kind 11) (member tt (private label)) (cond (eqb kind 12) (member tt (computed tt)) b)))))
+-- What nodes give: the same, where a chain has the same in hand.
+chain-cond : {A B : Type 0} (k : Bool) (b : Beside A) (c : Beside B) → (k ≡ true → sortOf b ≡ sortOf c) → sortOf (cond k b nothing) ≡ sortOf (cond k c nothing)
+unfolding sortOf
+chain-cond true b c h = h refl
+chain-cond false b c h = refl
 
-beside-is : (names : List NameFacts) (n : Node) (ts : Trees) → besideOf names (node n ts) ≡ by-root names (n .kind) (n .label) (cond (is 13 n) (keptOf names (cleared n) ts) nothing)
-unfolding besideOf by-root
-beside-is names n ts = refl
-
-cond-same : (k : Bool) (b c : Beside (Unit {0})) → (k ≡ true → b ≡ c) → cond k b nothing ≡ cond k c nothing
-cond-same true b c h = h refl
-cond-same false b c h = refl
-
-pub same-beside : (names : List NameFacts) (n k : Node) (ts us : Trees) → n .kind ≡ k .kind → n .label ≡ k .label → (is 13 k ≡ true → keptOf names (cleared n) ts ≡ keptOf names (cleared k) us) → besideOf names (node n ts) ≡ besideOf names (node k us)
-same-beside names n k ts us e g h =
-    beside-is names n ts
-    ∙ ap₂ (λ (a b : ℕ). by-root names a b (cond (eqb a 13) (keptOf names (cleared n) ts) nothing)) e g
-    ∙ ap (by-root names (k .kind) (k .label)) (cond-same (is 13 k) (keptOf names (cleared n) ts) (keptOf names (cleared k) us) h)
-    ∙ sym (beside-is names k us)
+pub beside-like : {A B : Type 0} (names : List NameFacts) (u : A) (w : B) (f : Form) (n : Node) (hs : Hand A) (gs : Hand B) → (isChain f ≡ true → sortOf (firstOr u hs .beside) ≡ sortOf (firstOr w gs .beside)) → sortOf (beside names u f n hs) ≡ sortOf (beside names w f n gs)
+unfolding beside sortOf
+beside-like names u w f n hs gs h =
+    sort-cond (isName f) _ _ _ _ (sort-cond (isEval (flagsOf names (n .label))) _ _ _ _ refl refl)
+    (sort-cond (eqb (n .kind) 29) _ _ _ _ refl (sort-cond (eqb (n .kind) 30) _ _ _ _ refl (sort-cond (eqb (n .kind) 10) _ _ _ _ refl (sort-cond (eqb (n .kind) 11) _ _ _ _ refl (sort-cond (eqb (n .kind) 12) _ _ _ _ refl (chain-cond (isChain f) _ _ h))))))

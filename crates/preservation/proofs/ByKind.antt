@@ -1,6 +1,6 @@
 -- Forms and kinds: names, chains, expressions, links.
 use Prim.Native.Nat.{ℕ}
-use mathlib.Core.Bool.{true, false, _||_}
+use mathlib.Core.Bool.{Bool, true, false, _||_}
 use mathlib.Core.Path.{_≡_, refl}
 use lib.Dec.{eqb, ltb}
 use borrow.Author.Tests.{eqb-true, eq-eqb, ne-eqb}
@@ -11,7 +11,7 @@ use Rattle.records.proofs.Tests.{clash, neither}
 use Rattle.walk.specs.Shape.{isMemberExpression}
 use Rattle.runs.specs.Form.{is, cleared, Form, constant, name, targetName, leaf, chain, property, importing, sequence, assignment, stepping, form, order, isName, isChain}
 use Rattle.preservation.proofs.Tests.{by-or}
-use Rattle.preservation.proofs.Tables.{kindsOf, kinds}
+use Rattle.preservation.proofs.Tables.{kindsOf, kinds, name-form}
 use Rattle.preservation.proofs.Kept.{stands}
 
 -- a form and its kind
@@ -50,6 +50,27 @@ name-kind n e = named-by (form (cleared n)) (cleared n) (kinds (cleared n)) e
 pub chain-kind : (n : Node) → isChain (form (cleared n)) ≡ true → is 13 n ≡ true
 unfolding cleared
 chain-kind n e = chained-by (form (cleared n)) (cleared n) (kinds (cleared n)) e
+
+-- the tests of a form are tests of its kind
+pub name-test : (n : Node) → isName (form (cleared n)) ≡ is 4 n
+name-test n = by (is 4 n) (isName (form (cleared n))) refl refl
+  where
+    by : (b c : Bool) → is 4 n ≡ b → isName (form (cleared n)) ≡ c → isName (form (cleared n)) ≡ is 4 n
+    by true c e g = rw e (rw (name-form (cleared n) (unfold cleared in e)) (unfold isName order in refl))
+    by false true e g = clash (is 4 n) e (name-kind n g)
+    by false false e g = rw (e, g)
+
+pub chain-form : (n : Node) → is 13 n ≡ true → form (cleared n) ≡ chain
+unfolding form cleared
+chain-form n e = rw (eqb-true (n .kind) 13 e)
+
+pub chain-test : (n : Node) → isChain (form (cleared n)) ≡ is 13 n
+chain-test n = by (is 13 n) (isChain (form (cleared n))) refl refl
+  where
+    by : (b c : Bool) → is 13 n ≡ b → isChain (form (cleared n)) ≡ c → isChain (form (cleared n)) ≡ is 13 n
+    by true c e g = rw e (rw (chain-form n e) (unfold isChain order in refl))
+    by false true e g = clash (is 13 n) e (chain-kind n g)
+    by false false e g = rw (e, g)
 
 pub other-kind : (n : Node) (k l : ℕ) → is k n ≡ true → eqb k l ≡ false → is l n ≡ false
 other-kind n k l e g = rw (eqb-true (n .kind) k e) g

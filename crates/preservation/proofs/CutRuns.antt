@@ -88,7 +88,7 @@ module _ {Value Rest : Type 0} (f : File) (m : Meaning Value Rest) where
   own-cut (assignment c) n role x s h = stepped-cut true x s (h true refl)
   own-cut (stepping c) n role x s h = stepped-cut (isMarked n) x s (h (isMarked n) (same-self (isMarked n)))
 
-  beside-cut : (F : Form) (n : Node) (hs : Hand Value) → beside names m F n hs ≡ beside names m′ F n hs
+  beside-cut : (F : Form) (n : Node) (hs : Hand Value) → beside names (m .undefined) F n hs ≡ beside names (m′ .undefined) F n hs
   unfolding beside cutTo
   beside-cut F n hs = refl
 

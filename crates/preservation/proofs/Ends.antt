@@ -82,7 +82,7 @@ module _ {Value Rest : Type 0} (names : List NameFacts) (m : Meaning Value Rest)
   module _ (H : Tree → Type 0) (Hs : Trees → Type 0) (kids : (n : Node) (ts : Trees) → H (node n ts) → Hs ts)
       (head : (t : Tree) (ts : Trees) → Hs (more t ts) → H t) (tail : (t : Tree) (ts : Trees) → Hs (more t ts) → Hs ts)
       (bare : B nothing) (along : (f : Form) (n : Node) (b : Beside Value) → B b → B (kept f n b))
-      (aside : (n : Node) (ts : Trees) (hs : List (Given Value)) → H (node n ts) → First B hs → B (beside names m (form (cleared n)) (cleared n) hs))
+      (aside : (n : Node) (ts : Trees) (hs : List (Given Value)) → H (node n ts) → First B hs → B (beside names (m .undefined) (form (cleared n)) (cleared n) hs))
       (step : (n : Node) (ts : Trees) (role : Role) (hs : List (Given Value)) (s : State Value Rest) → H (node n ts) → First B hs → P s → Ends (λ w s′. P s′) P Q (own names m (form (cleared n)) (cleared n) role (stepOf (cleared n) role hs) s)) where
     finished-ends : (n : Node) (ts : Trees) (role : Role) (hs : List (Given Value)) (s : State Value Rest) → H (node n ts) → First B hs → P s → Given-ends (finished names m (form (cleared n)) (cleared n) role hs s)
     unfolding finished

@@ -1,26 +1,23 @@
 -- What is in hand at a node of a run is what the file lets it have in hand.
 use mathlib.Core.Bool.{Bool, true, false, cond, _&&_, _||_}
 use mathlib.Core.List.{List, [], _∷_}
-use mathlib.Core.Path.{_≡_, refl}
+use mathlib.Core.Path.{_≡_, refl, _∙_}
 use borrow.Author.Tests.{eqb-true}
-use Rattle.records.specs.Flags.{isEval}
-use Rattle.records.specs.Script.{flagsOf}
 use Rattle.records.specs.Tree.{Node, Tree, Trees, node, none, more}
 use Rattle.records.specs.Place.{root}
 use Rattle.records.specs.declared.layout.NameFacts.{NameFacts}
 use Rattle.records.proofs.Tests.{clash, both}
-use Rattle.runs.specs.Hand.{Beside, nothing, Given, Hand, only, firstOr}
+use Rattle.runs.specs.Hand.{Beside, Given, Hand, only, firstOr}
 use Rattle.runs.specs.Step.{Role, value}
 use Rattle.runs.specs.Meaning.{Meaning}
 use Rattle.runs.specs.Form.{is, cleared, Choice, never, logical, conditional, optionally, form, order, childless, isName, isChain, choiceOf, firstRole}
 use Rattle.runs.specs.State.{State, Out, gave}
 use Rattle.runs.specs.Run.{Turn, all, skipped, second, third, takes, then, kept, caught, gathered, chosen, inTurn, goesOn, own, beside, finished, runNode, run, runChildren, runOthers}
-use Rattle.runs.specs.InHand.{sortOf, sameBeside, isNothing, besideOf, keptOf, mayKeep, areValues, mayHave}
+use Rattle.runs.specs.InHand.{sortOf, sameBeside, isNothing, besideOf, firstOf, mayKeep, areValues, mayHave}
 use Rattle.runs.specs.Makes.{Asked, choice, step, someTurn}
 use Rattle.preservation.proofs.Tests.{by-or, or-left, or-right}
-use Rattle.preservation.proofs.Tables.{name-form}
-use Rattle.preservation.proofs.Besides.{same-sort, sort-same, sort-cond, kept-like, nothing-kept}
-use Rattle.preservation.proofs.ByKind.{name-kind, chain-kind}
+use Rattle.preservation.proofs.Besides.{same-sort, sort-same, kept-like, nothing-kept, beside-like}
+use Rattle.preservation.proofs.ByKind.{chain-form, chain-test}
 use Rattle.preservation.proofs.Ends.{Ends, gives, cuts, halts, ends-bind, ends-any, ends-map, First}
 use Rattle.preservation.proofs.Same.{hand-of}
 
@@ -62,49 +59,32 @@ module _ (Value : Type 0) (names : List NameFacts) where
     Keeps n (more t ts) hs = First (λ b. mayKeep names n t b ≡ true) hs
 
     -- What a node gives beside its value, it may give. A chain:
-    abbrev none-beside : B
-    none-beside = nothing
+    chain-beside : (n : Node) (hs : Hand Value) → is 13 n ≡ true → beside names (m .undefined) (form (cleared n)) (cleared n) hs ≡ firstOr (m .undefined) hs .beside
+    unfolding beside cleared isName isChain order
+    chain-beside n hs e = rw (chain-form n e, eqb-true (n .kind) 13 e)
 
-    chain-beside : (n : Node) (ts : Trees) (hs : Hand Value) → is 13 n ≡ true → (beside names m (form (cleared n)) (cleared n) hs ≡ firstOr (m .undefined) hs .beside) × (besideOf names (node n ts) ≡ keptOf names (cleared n) ts)
-    unfolding beside cleared besideOf form isName isChain order
-    chain-beside n ts hs e = rw (eqb-true (n .kind) 13 e) (refl, refl)
-
-    chain-gives : (n : Node) (ts : Trees) (hs : Hand Value) → Keeps n ts hs → (sameBeside (keptOf names n ts) (firstOr (m .undefined) hs .beside) || isNothing (firstOr (m .undefined) hs .beside)) ≡ true
-    unfolding firstOr mayKeep besideOf
-    chain-gives n ts [] h = or-right (sameBeside (keptOf names n ts) none-beside) (isNothing none-beside) (unfold isNothing sortOf in refl)
-    chain-gives n none (x ∷ hs) h = absurd h
-    chain-gives n (more t ts) (x ∷ hs) h =
-        by-or (sameBeside (kept (form n) n (besideOf names t)) (x .beside)) (is 13 (root t) && isNothing (x .beside)) (λ q. or-left _ _ q)
-        (λ q. or-right (sameBeside (kept (form n) n (besideOf names t)) (x .beside)) _ (both (is 13 (root t)) (isNothing (x .beside)) q .1)) h
-
-    -- any other
-    name-test : (n : Node) → isName (form (cleared n)) ≡ is 4 n
-    name-test n = by (is 4 n) (isName (form (cleared n))) refl refl
+    chain-gives : (n : Node) (ts : Trees) (hs : Hand Value) → is 13 n ≡ true → Keeps (cleared n) ts hs → Gives (node n ts) (beside names (m .undefined) (form (cleared n)) (cleared n) hs)
+    unfolding mayKeep besideOf
+    chain-gives n ts [] e h = or-right (sameBeside (besideOf names (node n ts)) _) _ (rw (e, chain-beside n [] e) (unfold firstOr isNothing sortOf in refl))
+    chain-gives n none (x ∷ hs) e h = absurd h
+    chain-gives n (more t ts) (x ∷ hs) e h =
+        by-or (sameBeside (kept (form (cleared n)) (cleared n) (besideOf names t)) (x .beside)) (is 13 (root t) && isNothing (x .beside))
+        (λ q. or-left _ _ (same-sort (besideOf names (node n (more t ts))) _ (beside-like names tt (m .undefined) (form (cleared n)) (cleared n) (firstOf names (cleared n) (more t ts)) (x ∷ hs) (λ z. first-like n t ts x hs q))))
+        (λ q. or-right (sameBeside (besideOf names (node n (more t ts))) _) _ (rw (e, chain-beside n (x ∷ hs) e) (unfold firstOr in both (is 13 (root t)) (isNothing (x .beside)) q .1))) h
       where
-        by : (b c : Bool) → is 4 n ≡ b → isName (form (cleared n)) ≡ c → isName (form (cleared n)) ≡ is 4 n
-        by true c e g = rw e (rw (name-form (cleared n) (unfold cleared in e)) (unfold isName order in refl))
-        by false true e g = clash (is 4 n) e (name-kind n g)
-        by false false e g = rw (e, g)
+        first-like : (n : Node) (t : Tree) (ts : Trees) (x : Given Value) (hs : Hand Value) → sameBeside (kept (form (cleared n)) (cleared n) (besideOf names t)) (x .beside) ≡ true → sortOf (firstOr tt (firstOf names (cleared n) (more t ts)) .beside) ≡ sortOf (firstOr (m .undefined) (x ∷ hs) .beside)
+        first-like n t ts x hs q = unfold firstOr besideOf in sort-same (kept (form (cleared n)) (cleared n) (besideOf names t)) (x .beside) q
 
-    chain-test : (n : Node) → is 13 n ≡ false → isChain (form (cleared n)) ≡ false
-    chain-test n e = by (isChain (form (cleared n))) refl
-      where
-        by : (b : Bool) → isChain (form (cleared n)) ≡ b → isChain (form (cleared n)) ≡ false
-        by true g = clash (is 13 n) e (chain-kind n g)
-        by false g = g
+    other-gives : (n : Node) (ts : Trees) (hs : Hand Value) → is 13 n ≡ false → Gives (node n ts) (beside names (m .undefined) (form (cleared n)) (cleared n) hs)
+    unfolding besideOf
+    other-gives n ts hs e =
+        or-left _ _ (same-sort (besideOf names (node n ts)) _ (beside-like names tt (m .undefined) (form (cleared n)) (cleared n) (firstOf names (cleared n) ts) hs (λ q. clash (isChain (form (cleared n))) (chain-test n ∙ e) q)))
 
-    other-beside : (n : Node) (ts : Trees) (hs : Hand Value) → is 13 n ≡ false → sortOf (besideOf names (node n ts)) ≡ sortOf (beside names m (form (cleared n)) (cleared n) hs)
-    unfolding beside cleared besideOf sortOf
-    other-beside n ts hs e =
-        rw (name-test n, chain-test n e, e)
-        (sort-cond (is 4 n) _ _ _ _ (sort-cond (isEval (flagsOf names (n .label))) _ _ _ _ refl refl)
-        (sort-cond (is 29 n) _ _ _ _ refl (sort-cond (is 30 n) _ _ _ _ refl (sort-cond (is 10 n) _ _ _ _ refl (sort-cond (is 11 n) _ _ _ _ refl (sort-cond (is 12 n) _ _ _ _ refl refl))))))
+    gives-by : (b : Bool) (n : Node) (ts : Trees) (hs : Hand Value) → is 13 n ≡ b → Keeps (cleared n) ts hs → Gives (node n ts) (beside names (m .undefined) (form (cleared n)) (cleared n) hs)
+    gives-by true n ts hs e h = chain-gives n ts hs e h
+    gives-by false n ts hs e h = other-gives n ts hs e
 
-    gives-by : (b : Bool) (n : Node) (ts : Trees) (hs : Hand Value) → is 13 n ≡ b → Keeps (cleared n) ts hs → Gives (node n ts) (beside names m (form (cleared n)) (cleared n) hs)
-    gives-by true n ts hs e h = let (x, y) = chain-beside n ts hs e in rw (x, y, e) (chain-gives (cleared n) ts hs h)
-    gives-by false n ts hs e h = or-left _ _ (same-sort (besideOf names (node n ts)) (beside names m (form (cleared n)) (cleared n) hs) (other-beside n ts hs e))
-
-    gives-beside : (n : Node) (ts : Trees) (hs : Hand Value) → Keeps (cleared n) ts hs → Gives (node n ts) (beside names m (form (cleared n)) (cleared n) hs)
+    gives-beside : (n : Node) (ts : Trees) (hs : Hand Value) → Keeps (cleared n) ts hs → Gives (node n ts) (beside names (m .undefined) (form (cleared n)) (cleared n) hs)
     gives-beside n ts hs h = gives-by (is 13 n) n ts hs refl h
 
     -- how parts come out: a tree; children behind the first; the children of a node

@@ -10,10 +10,9 @@ use Rattle.walk.specs.Substitute.{at}
 use Rattle.runs.specs.Hand.{Beside, Hand}
 use Rattle.runs.specs.Step.{Role, Step}
 use Rattle.runs.specs.Form.{is, cleared, isMarked, isMember, Form, constant, name, targetName, leaf, chain, property, importing, sequence, assignment, stepping, form, childless, choiceOf, originOf}
-use Rattle.runs.specs.Run.{Turn, kept}
-use Rattle.runs.specs.InHand.{sameBeside, isNothing, besideOf, keptOf, mayKeep, areValues, mayHave}
+use Rattle.runs.specs.Run.{Turn, kept, beside}
+use Rattle.runs.specs.InHand.{sameBeside, isNothing, besideOf, firstOf, mayKeep, areValues, mayHave}
 use Rattle.runs.specs.Makes.{Asked, choice, step, makesOwn, asks, someTurn, sameOrigin, makesHere, makesIn, makesInRow}
-use Rattle.preservation.proofs.Besides.{same-beside}
 use Rattle.preservation.proofs.At.{placedAt, kept-at, role-at}
 
 form-at : (p : ℕ) (n : Node) → form (placedAt p n) ≡ form n
@@ -28,16 +27,21 @@ keeps-at : {Value : Type 0} (p : ℕ) (n : Node) (b : Beside Value) → kept (fo
 keeps-at p n b = ap (λ f. kept f (placedAt p n) b) (form-at p n) ∙ kept-at p (form n) n b
 
 module _ (names : List NameFacts) (p : ℕ) where
-  first-at : (n : Node) (ts : Trees) → keptOf names (placedAt p n) ts ≡ keptOf names n ts
+  first-at : (n : Node) (ts : Trees) → firstOf names (placedAt p n) ts ≡ firstOf names n ts
   unfolding besideOf
   first-at n none = refl
-  first-at n (more t ts) = keeps-at p n (besideOf names t)
+  first-at n (more t ts) = ap (λ b. record { value = tt; beside = b } ∷ []) (keeps-at p n (besideOf names t))
+
+  same-node : (f : Form) (n : Node) (hs : Hand (Unit {0})) → beside names tt f (placedAt p n) hs ≡ beside names tt f n hs
+  unfolding beside placedAt
+  same-node f n hs = refl
+
+  beside-cleared : (n : Node) (ts : Trees) → beside names tt (form (placedAt p n)) (placedAt p n) (firstOf names (placedAt p n) ts) ≡ beside names tt (form n) n (firstOf names n ts)
+  beside-cleared n ts = ap₂ (λ f hs. beside names tt f (placedAt p n) hs) (form-at p n) (first-at n ts) ∙ same-node (form n) n (firstOf names n ts)
 
   beside-node : (n : Node) (ts : Trees) → besideOf names (node (placedAt p n) ts) ≡ besideOf names (node n ts)
-  beside-node n ts = same-beside names (placedAt p n) n ts ts (unfold placedAt in refl) (unfold placedAt in refl) (λ e. cleared-first n ts)
-    where
-      cleared-first : (n : Node) (ts : Trees) → keptOf names (cleared (placedAt p n)) ts ≡ keptOf names (cleared n) ts
-      cleared-first n ts = unfold cleared placedAt in first-at (cleared n) ts
+  unfolding besideOf cleared placedAt
+  beside-node n ts = beside-cleared (cleared n) ts
 
   pub beside-at : (t : Tree) → besideOf names (at p t) ≡ besideOf names t
   unfolding at placedAt

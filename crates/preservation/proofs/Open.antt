@@ -56,7 +56,7 @@ module _ {Value Rest : Type 0} (σ : Setting Value Rest) where
   calm e = quiet-calm σ e
 
   -- r is literal
-  constant-run : (n : Node) (role : Role) (cs : S → O (List (Given Value))) (s : S) → runNode names m constant n role cs s ≡ gave (record { value = m .constant (stepOf n role []); beside = beside names m constant n [] }) s
+  constant-run : (n : Node) (role : Role) (cs : S → O (List (Given Value))) (s : S) → runNode names m constant n role cs s ≡ gave (record { value = m .constant (stepOf n role []); beside = beside names (m .undefined) constant n [] }) s
   unfolding runNode gathered childless order finished own bind
   constant-run n role cs s = refl
 
@@ -65,7 +65,7 @@ module _ {Value Rest : Type 0} (σ : Setting Value Rest) where
   constant-form n = by-or (is 1 n) (true && is 2 n) (λ e. rw (eqb-true (n .kind) 1 e)) (λ e. rw (eqb-true (n .kind) 2 e))
 
   constant-at : (f : Form) (n : Node) (role : Role) (cs : S → O (List (Given Value))) → f ≡ constant → (x : Given Value) × ((s : S) → runNode names m f n role cs s ≡ gave x s)
-  constant-at f n role cs e = (record { value = m .constant (stepOf n role []); beside = beside names m constant n [] }, λ s. rw e (constant-run n role cs s))
+  constant-at f n role cs e = (record { value = m .constant (stepOf n role []); beside = beside names (m .undefined) constant n [] }, λ s. rw e (constant-run n role cs s))
 
   literal-is : (t : Tree) → isLiteralValue true t ≡ true → (x : Given Value) × ((s : S) → run names m t value s ≡ gave x s)
   unfolding isLiteralValue run
@@ -90,26 +90,26 @@ module _ {Value Rest : Type 0} (σ : Setting Value Rest) where
 
   -- A node, by its form.
   pub by-constant : {s : S} (n : Node) (role : Role) (cs : S → O (List (Given Value))) → Why s (runNode names m constant n role cs)
-  by-constant n role cs = steady (λ s. record { value = m .constant (stepOf n role []); beside = beside names m constant n [] }) (λ s. constant-run n role cs s) (λ a s. refl) (ends-any _ (λ x s′. refl) (λ s′. tt))
+  by-constant n role cs = steady (λ s. record { value = m .constant (stepOf n role []); beside = beside names (m .undefined) constant n [] }) (λ s. constant-run n role cs s) (λ a s. refl) (ends-any _ (λ x s′. refl) (λ s′. tt))
 
-  name-run : (n : Node) (role : Role) (cs : S → O (List (Given Value))) (s : S) → resolved names (n .label) ≡ true → runNode names m name n role cs s ≡ gave (record { value = s .store .names (n .label); beside = beside names m name n [] }) s
+  name-run : (n : Node) (role : Role) (cs : S → O (List (Given Value))) (s : S) → resolved names (n .label) ≡ true → runNode names m name n role cs s ≡ gave (record { value = s .store .names (n .label); beside = beside names (m .undefined) name n [] }) s
   unfolding runNode gathered childless order finished own bind held
   name-run n role cs s e = rw e
 
   pub by-settled : {s : S} (n : Node) (role : Role) (cs : S → O (List (Given Value))) → eqb (n .label) v ≡ false → settled file (n .label) ≡ true → Why s (runNode names m name n role cs)
   unfolding set
   by-settled {s = s} n role cs h e =
-      steady (λ s. record { value = s .names (n .label); beside = beside names m name n [] }) (λ s. name-run n role cs s (settled-resolved file (n .label) e)) (λ a s. rw h)
+      steady (λ s. record { value = s .names (n .label); beside = beside names (m .undefined) name n [] }) (λ s. name-run n role cs s (settled-resolved file (n .label) e)) (λ a s. rw h)
       (ends-map (kept-by names m (n .label) (settled-resolved file (n .label) e) (λ u. u .names (n .label) ≡ s .store .names (n .label)) (λ x i q u u′ w g p. settled-kept (n .label) e x i q u u′ w g ∙ p) r (apart _ e) value s refl)
-      (λ x s′ p. ap (λ w. record { value = w; beside = beside names m name n [] }) p) (λ s′ p. tt) (λ p. p))
+      (λ x s′ p. ap (λ w. record { value = w; beside = beside names (m .undefined) name n [] }) p) (λ s′ p. tt) (λ p. p))
 
   by-chain : {s : S} (n : Node) (role : Role) (cs : S → O (List (Given Value))) → Why s cs → Why s (runNode names m chain n role cs)
   unfolding runNode gathered childless isChain order finished own bind
-  by-chain n role cs y = one-reason σ (λ hs. record { value = firstOr (m .undefined) hs .value; beside = beside names m chain n hs }) (caught-reason σ y)
+  by-chain n role cs y = one-reason σ (λ hs. record { value = firstOr (m .undefined) hs .value; beside = beside names (m .undefined) chain n hs }) (caught-reason σ y)
 
   by-property : {s : S} (n : Node) (role : Role) (cs : S → O (List (Given Value))) → Why s cs → Why s (runNode names m property n role cs)
   unfolding runNode gathered childless isChain order finished own bind
-  by-property n role cs y = one-reason σ (λ hs. record { value = m .constant (stepOf n role hs); beside = beside names m property n hs }) y
+  by-property n role cs y = one-reason σ (λ hs. record { value = m .constant (stepOf n role hs); beside = beside names (m .undefined) property n hs }) y
 
   by-import : {s : S} (n : Node) (role : Role) (ts : Trees) → Framed σ (runNode names m importing n role (runChildren names m ts importing n role)) → mayHaveSideEffects r ≡ false → anyHasSideEffects ts ≡ false → Why s (runNode names m importing n role (runChildren names m ts importing n role))
   unfolding runNode gathered childless isChain order finished own queued bind

@@ -3,8 +3,6 @@ use Prim.Native.Nat.{ℕ}
 use mathlib.Core.Bool.{Bool, true, false, cond, _&&_, _||_, not}
 use mathlib.Core.List.{List, [], _∷_}
 use mathlib.Core.Path.{_≡_, refl, sym, ap, _∙_, subst}
-use lib.Dec.{eqb}
-use borrow.Author.Tests.{eqb-true}
 use Rattle.records.specs.Flags.{isEval}
 use Rattle.records.specs.Script.{flagsOf}
 use Rattle.records.specs.Tree.{Node, Tree, Trees, node, none, more}
@@ -15,30 +13,27 @@ use Rattle.records.proofs.Tests.{clash, both}
 use Rattle.walk.specs.Context.{Context}
 use Rattle.walk.specs.Shape.{shape, cleared as walked}
 use Rattle.walk.specs.Substitute.{Answer, replaced, stopped, passed, Plan, all, first, nothing as none-at-all, value as behind, test, branches, tag, next, at, preserveIndirectAccess, asTag, inOrder, inBranches, byPlan, ofNode, isSpecificId, isMemberTag, plan, mayPass, substituteInExpression, substituteInChildren}
-use Rattle.runs.specs.Hand.{Beside, nothing, Hand}
+use Rattle.runs.specs.Hand.{Beside, nothing, Hand, firstOr}
 use Rattle.runs.specs.Step.{Role, value, Step}
-use Rattle.runs.specs.Form.{is, cleared, chain, form, order, isChain, choiceOf, firstRole, originOf}
-use Rattle.runs.specs.Run.{Turn, takes, then, kept}
+use Rattle.runs.specs.Form.{is, cleared, form, order, isName, isChain, choiceOf, firstRole, originOf}
+use Rattle.runs.specs.Run.{Turn, takes, then, kept, beside}
 use Rattle.runs.specs.Shapes.{evalWhole}
-use Rattle.runs.specs.InHand.{sortOf, sameBeside, isNothing, besideOf, keptOf, mayKeep, areValues, mayHave}
+use Rattle.runs.specs.InHand.{sortOf, sameBeside, isNothing, besideOf, firstOf, mayKeep, areValues, mayHave}
 use Rattle.runs.specs.Makes.{Asked, choice, step, isMade, makesOwn, asks, someTurn, sameOrigin, makesHere, makesIn, makesInRow, makes}
-use Rattle.preservation.proofs.Tests.{and-then, and-on, by-or, or-left}
+use Rattle.preservation.proofs.Tests.{and-then, and-on, by-or, or-left, or-right}
 use Rattle.preservation.proofs.Tables.{walked-cleared, cleared-once, form-shape, shape-kinds}
 use Rattle.preservation.proofs.Kept.{under, in-row}
 use Rattle.preservation.proofs.Uses.{specific}
 use Rattle.preservation.proofs.Bare.{gives-nothing}
 use Rattle.preservation.proofs.Entering.{Entering, Enters, kept-value, value-of-all, plan-enters}
 use Rattle.preservation.proofs.MakesAt.{beside-at, makes-at}
-use Rattle.preservation.proofs.Besides.{same-sort, nothing-sort, same-nothing, same-beside}
+use Rattle.preservation.proofs.Besides.{same-sort, sort-same, nothing-is, nothing-sort, same-nothing, nothing-kept, kept-like, beside-like}
+use Rattle.preservation.proofs.ByKind.{name-test}
 use Rattle.preservation.proofs.Hands.{turn-on}
 use Rattle.preservation.proofs.Within.{Within, WithinRow, node-children, row-first, row-others, row-join}
 
 same-cleared : (n : Node) → cleared (walked n) ≡ cleared n
 same-cleared n = ap cleared (walked-cleared n) ∙ cleared-once n
-
-chain-form : (n : Node) → is 13 n ≡ true → form (cleared n) ≡ chain
-unfolding form cleared
-chain-form n e = rw (eqb-true (n .kind) 13 e)
 
 -- a child that is the name is evaluated for its value
 value-first : (v : ℕ) (r : Tree) (n : Node) (t : Tree) → Entering v r (form n) n t → isSpecificId v (root t) ≡ true → (role : Role) → firstRole (form n) n role ≡ value
@@ -50,7 +45,7 @@ module _ (Value : Type 0) (f : File) (v : ℕ) (r : Tree) where
 
   -- a node that keeps nothing of what r gives beside its value
   abbrev KeepsNone : Node → Type 0
-  KeepsNone n = kept (form n) n (besideOf names r) ≡ nothing
+  KeepsNone n = isNothing (kept (form n) n (besideOf names r)) ≡ true
 
   -- what is asked of an initializer that is placed, and of the name
   pub record Placeable : Type 0 where
@@ -63,7 +58,7 @@ module _ (Value : Type 0) (f : File) (v : ℕ) (r : Tree) where
   -- A tree and what a search leaves of it. Where the tree isn't the name, it gives the same beside its value; and where a node
   -- keeps nothing of what r gives, it has no more in hand of what is left than of the tree.
   record Follows (t t′ : Tree) : Type 0 where
-    same : isSpecificId v (root t) ≡ false → besideOf names t′ ≡ besideOf names t
+    same : isSpecificId v (root t) ≡ false → sortOf (besideOf names t′) ≡ sortOf (besideOf names t)
     keep : (n : Node) → (isSpecificId v (root t) ≡ true → KeepsNone n) → (b : Beside Value) → mayKeep names n t′ b ≡ true → mayKeep names n t b ≡ true
     within : (role : Role) → (isSpecificId v (root t) ≡ true → role ≡ value) → Within Value f role t → Within Value f role t′
 
@@ -74,7 +69,7 @@ module _ (Value : Type 0) (f : File) (v : ℕ) (r : Tree) where
 
   -- the children of a node
   record FollowsChildren (n : Node) (ts ts′ : Trees) : Type 0 where
-    first-same : isChain (form n) ≡ true → keptOf names n ts′ ≡ keptOf names n ts
+    first-same : isChain (form n) ≡ true → sortOf (firstOr tt (firstOf names n ts′) .beside) ≡ sortOf (firstOr tt (firstOf names n ts) .beside)
     hand : (w : Turn) (hs : Hand Value) → mayHave names n w ts′ hs ≡ true → mayHave names n w ts hs ≡ true
     within : (role : Role) → WithinRow Value f (firstRole (form n) n role) ts → WithinRow Value f (firstRole (form n) n role) ts′
 
@@ -152,9 +147,9 @@ module _ (Value : Type 0) (f : File) (v : ℕ) (r : Tree) where
   hand-both n t t′ ts ts′ k h w [] e = e
   hand-both n t t′ ts ts′ k h w (x ∷ hs) e = let (a, b) = both (mayKeep names n t′ (x .beside)) (areValues w ts′ hs) e in rw (k (x .beside) a, h w hs b)
 
-  same-first : (n : Node) (t t′ : Tree) (ts ts′ : Trees) → besideOf names t′ ≡ besideOf names t → keptOf names n (more t′ ts′) ≡ keptOf names n (more t ts)
-  unfolding besideOf
-  same-first n t t′ ts ts′ e = ap (kept (form n) n) e
+  same-first : (n : Node) (t t′ : Tree) (ts ts′ : Trees) → sortOf (besideOf names t′) ≡ sortOf (besideOf names t) → sortOf (firstOr tt (firstOf names n (more t′ ts′)) .beside) ≡ sortOf (firstOr tt (firstOf names n (more t ts)) .beside)
+  unfolding besideOf firstOr
+  same-first n t t′ ts ts′ e = kept-like (form n) n (besideOf names t′) (besideOf names t) e
 
   child-first : (n : Node) (t t′ : Tree) (ts : Trees) → (isSpecificId v (root t) ≡ true → KeepsNone n) → Entering v r (form n) n t → Follows t t′ → FollowsChildren n (more t ts) (more t′ ts)
   child-first n t t′ ts k e h = record {
@@ -175,8 +170,8 @@ module _ (Value : Type 0) (f : File) (v : ℕ) (r : Tree) where
 
   -- r gives nothing or a member beside its value, and that isn't kept
   keeps-by : (b : Bool) (n : Node) (t : Tree) → isMemberTag r ≡ b → Placeable → Entering v r (form n) n t → isSpecificId v (root t) ≡ true → KeepsNone n
-  keeps-by true n t q p e g = kept-value v r (form n) n t e g q (besideOf names r)
-  keeps-by false n t q p e g = ap (kept (form n) n) (gives-nothing names r (p .standing) (p .expression) (unfold evalWhole in p .plain) q) ∙ (unfold kept in refl)
+  keeps-by true n t q p e g = ap isNothing (kept-value v r (form n) n t e g q (besideOf names r)) ∙ (unfold isNothing sortOf in refl)
+  keeps-by false n t q p e g = nothing-kept (form n) n (besideOf names r) (ap isNothing (gives-nothing names r (p .standing) (p .expression) (unfold evalWhole in p .plain) q) ∙ (unfold isNothing sortOf in refl))
 
   keeps-none : (n : Node) (t : Tree) → Placeable → Entering v r (form n) n t → isSpecificId v (root t) ≡ true → KeepsNone n
   keeps-none n t p e g = keeps-by (isMemberTag r) n t refl p e g
@@ -193,22 +188,19 @@ module _ (Value : Type 0) (f : File) (v : ℕ) (r : Tree) where
   rest-order n t ts passed y = tt
 
   -- The name gives nothing beside its value.
-  kept-nothing : (n : Node) → kept {Value = Unit {0}} (form n) n nothing ≡ nothing
-  unfolding kept
-  kept-nothing n = refl
-
   name-beside : (n : Node) (ts : Trees) → isSpecificId v n ≡ true → isEval (flagsOf names v) ≡ false → besideOf names (node n ts) ≡ nothing
-  unfolding besideOf
-  name-beside n ts e g = let (k, l) = specific v n e in rw (k, l, g)
+  unfolding besideOf beside cleared
+  name-beside n ts e g = let (k, l) = specific v n e in rw (name-test n, k, l, g)
 
   name-keep : (n : Node) (t : Tree) (b : Beside Value) → isSpecificId v (root t) ≡ true → isEval (flagsOf names v) ≡ false → isNothing b ≡ true → mayKeep names n t b ≡ true
   unfolding mayKeep
-  name-keep n (node k ts) b e g h = or-left _ _ (same-sort (kept (form n) n (besideOf names (node k ts))) b (ap sortOf (ap (kept (form n) n) (name-beside k ts e g) ∙ kept-nothing n) ∙ sym (nothing-sort b h ∙ (unfold sortOf in refl))))
+  name-keep n (node k ts) b e g h = or-left _ _ (same-sort (kept (form n) n (besideOf names (node k ts))) b (nothing-sort (kept (form n) n (besideOf names (node k ts))) (nothing-kept (form n) n (besideOf names (node k ts)) (ap isNothing (name-beside k ts e g) ∙ (unfold isNothing sortOf in refl))) ∙ sym (nothing-sort b h)))
 
   -- what is kept of a tree that gives nothing to keep is nothing
-  keep-nothing : (n : Node) (t : Tree) (b : Beside Value) → kept (form n) n (besideOf names t) ≡ nothing → mayKeep names n t b ≡ true → isNothing b ≡ true
+  keep-nothing : (n : Node) (t : Tree) (b : Beside Value) → isNothing (kept (form n) n (besideOf names t)) ≡ true → mayKeep names n t b ≡ true → isNothing b ≡ true
   unfolding mayKeep
-  keep-nothing n t b e h = by-or (sameBeside (kept (form n) n (besideOf names t)) b) (is 13 (root t) && isNothing b) (λ q. same-nothing (kept (form n) n (besideOf names t)) b e q) (λ q. both (is 13 (root t)) (isNothing b) q .1) h
+  keep-nothing n t b e h =
+      by-or (sameBeside (kept (form n) n (besideOf names t)) b) (is 13 (root t) && isNothing b) (λ q. same-nothing (kept (form n) n (besideOf names t)) b (nothing-is (kept (form n) n (besideOf names t)) e) q) (λ q. both (is 13 (root t)) (isNothing b) q .1) h
 
   -- A tag in whose place the initializer stays indirect.
   still-here : (d : Asked) (x : Step Value) (n : Node) (role : Role) (ts : Trees) → asks d names (form n) n role ≡ false → makesHere names d x n role ts ≡ false
@@ -245,8 +237,8 @@ module _ (Value : Type 0) (f : File) (v : ℕ) (r : Tree) where
       aside-by : (role : Role) → makesIn names d x (node (pair (n .position)) (more (node (one (n .position)) none) (more (node n ts) none))) role ≡ (makesIn names d x (node n ts) value || false)
       aside-by role = unfold makesIn in (rw (still-here d x (cleared (pair (n .position))) role (more (node (one (n .position)) none) (more (node n ts) none)) (quiet d (n .position) role .1)) (aside-row d x (n .position) (node n ts) _))
 
-  aside-beside : (t : Tree) → besideOf names (preserveIndirectAccess t) ≡ nothing
-  unfolding preserveIndirectAccess besideOf
+  aside-beside : (t : Tree) → isNothing (besideOf names (preserveIndirectAccess t)) ≡ true
+  unfolding preserveIndirectAccess besideOf beside form cleared isName isChain order isNothing sortOf
   aside-beside (node n ts) = refl
 
   aside-kind : (t : Tree) → is 13 (root (preserveIndirectAccess t)) ≡ false
@@ -256,7 +248,7 @@ module _ (Value : Type 0) (f : File) (v : ℕ) (r : Tree) where
   child-aside : (n : Node) (t t′ : Tree) (ts : Trees) → isSpecificId v (root t) ≡ true → Placeable → isChain (form n) ≡ false → ((role : Role) → firstRole (form n) n role ≡ value) → Follows t t′ → FollowsChildren n (more t ts) (more (preserveIndirectAccess t′) ts)
   child-aside n t t′ ts e p c g h = record {
     first-same = λ q. clash (isChain (form n)) c q;
-    hand = hand-both n t (preserveIndirectAccess t′) ts ts (λ b q. name-keep n t b e (p .other) (keep-nothing n (preserveIndirectAccess t′) b (ap (kept (form n) n) (aside-beside t′) ∙ kept-nothing n) q)) (λ w hs e. e);
+    hand = hand-both n t (preserveIndirectAccess t′) ts ts (λ b q. name-keep n t b e (p .other) (keep-nothing n (preserveIndirectAccess t′) b (nothing-kept (form n) n (besideOf names (preserveIndirectAccess t′)) (aside-beside t′)) q)) (λ w hs e. e);
     within = λ role w.
         row-join Value f (preserveIndirectAccess t′) ts (firstRole (form n) n role)
         (aside-within t′ (firstRole (form n) n role) (h .within value (λ e. refl) (subst (λ (ρ : Role). Within Value f ρ t) (g role) (row-first Value f t ts (firstRole (form n) n role) w))))
@@ -285,15 +277,19 @@ module _ (Value : Type 0) (f : File) (v : ℕ) (r : Tree) where
   unfolding walked
   walked-root n = (refl, refl)
 
-  node-same : (n : Node) (ts ts′ : Trees) → FollowsChildren (cleared n) ts ts′ → besideOf names (node (walked n) ts′) ≡ besideOf names (node n ts)
-  node-same n ts ts′ h = same-beside names (walked n) n ts′ ts (walked-root n .0) (walked-root n .1) (λ e. ap (λ c. keptOf names c ts′) (same-cleared n) ∙ h .first-same (chained n e))
-    where
-      chained : (n : Node) → is 13 n ≡ true → isChain (form (cleared n)) ≡ true
-      chained n e = rw (chain-form n e) (unfold isChain order in refl)
+  node-like : (n : Node) (ts ts′ : Trees) → FollowsChildren n ts ts′ → sortOf (beside names tt (form n) n (firstOf names n ts′)) ≡ sortOf (beside names tt (form n) n (firstOf names n ts))
+  node-like n ts ts′ h = beside-like names tt tt (form n) n (firstOf names n ts′) (firstOf names n ts) (h .first-same)
+
+  node-same : (n : Node) (ts ts′ : Trees) → FollowsChildren (cleared n) ts ts′ → sortOf (besideOf names (node (walked n) ts′)) ≡ sortOf (besideOf names (node n ts))
+  unfolding besideOf
+  node-same n ts ts′ h = ap (λ c. sortOf (beside names tt (form c) c (firstOf names c ts′))) (same-cleared n) ∙ node-like (cleared n) ts ts′ h
 
   node-keep : (n : Node) (ts ts′ : Trees) (k : Node) (b : Beside Value) → FollowsChildren (cleared n) ts ts′ → mayKeep names k (node (walked n) ts′) b ≡ true → mayKeep names k (node n ts) b ≡ true
   unfolding mayKeep
-  node-keep n ts ts′ k b h e = subst (λ (x : ℕ). (sameBeside (kept (form k) k (besideOf names (node n ts))) b || eqb x 13 && isNothing b) ≡ true) (walked-root n .0) (subst (λ (c : Beside (Unit {0})). (sameBeside (kept (form k) k c) b || is 13 (walked n) && isNothing b) ≡ true) (node-same n ts ts′ h) e)
+  node-keep n ts ts′ k b h e =
+      by-or (sameBeside (kept (form k) k (besideOf names (node (walked n) ts′))) b) (is 13 (walked n) && isNothing b)
+      (λ q. or-left _ _ (same-sort (kept (form k) k (besideOf names (node n ts))) b (sym (kept-like (form k) k (besideOf names (node (walked n) ts′)) (besideOf names (node n ts)) (node-same n ts ts′ h)) ∙ sort-same (kept (form k) k (besideOf names (node (walked n) ts′))) b q)))
+      (λ q. or-right (sameBeside (kept (form k) k (besideOf names (node n ts))) b) _ (rw (walked-root n .0) at q)) e
 
   node-within : (n : Node) (ts ts′ : Trees) → FollowsChildren (cleared n) ts ts′ → (role : Role) → Within Value f role (node n ts) → (d : Asked) (x : Step Value) → (makesHere names d x (cleared n) role ts′ || makesInRow names d x ts′ (firstRole (form (cleared n)) (cleared n) role)) ≡ true → makes d f x ≡ true
   node-within n ts ts′ h role g d x e =
@@ -328,7 +324,7 @@ module _ (Value : Type 0) (f : File) (v : ℕ) (r : Tree) where
   at-name : (n : Node) (ts : Trees) → isSpecificId v n ≡ true → Placeable → Follows (node n ts) (at (n .position) r)
   at-name n ts e p = record {
     same = λ q. clash (isSpecificId v n) q e;
-    keep = λ k z b g. name-keep k (node n ts) b e (p .other) (keep-nothing k (at (n .position) r) b (ap (kept (form k) k) (beside-at names (n .position) r) ∙ z e) g);
+    keep = λ k z b g. name-keep k (node n ts) b e (p .other) (keep-nothing k (at (n .position) r) b (ap (λ b. isNothing (kept (form k) k b)) (beside-at names (n .position) r) ∙ z e) g);
     within = λ role s g. subst (λ (ρ : Role). Within Value f ρ (at (n .position) r)) (sym (s e)) (λ d x q. p .steps d x (sym (makes-at names (n .position) d x r value) ∙ q));
   }
 

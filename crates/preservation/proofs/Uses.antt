@@ -132,7 +132,7 @@ module _ {Value : Type 0} (v : ℕ) where
   firstOr-off w [] h = nothing-off
   firstOr-off w (x ∷ hs) h = h
 
-  pub beside-off : {Rest : Type 0} (names : List NameFacts) (m : Meaning Value Rest) (f : Form) (n : Node) (hs : List (Given Value)) → (is 29 n ≡ true → eqb (n .label) v ≡ false) → First (Off v) hs → Off v (beside names m f n hs)
+  pub beside-off : {Rest : Type 0} (names : List NameFacts) (m : Meaning Value Rest) (f : Form) (n : Node) (hs : List (Given Value)) → (is 29 n ≡ true → eqb (n .label) v ≡ false) → First (Off v) hs → Off v (beside names (m .undefined) f n hs)
   unfolding beside
   beside-off names m f n hs h g =
       cond-off (isName f) (λ e. cond-off (isEval (flagsOf names (n .label))) (λ e. eval-off) nothing-off)
@@ -152,7 +152,7 @@ unfolding usesIn
 tail-targets v t ts e = omega arith
 
 module _ {Value Rest : Type 0} (names : List NameFacts) (m : Meaning Value Rest) (v : ℕ) where
-  pub aside-off : (n : Node) (ts : Trees) (hs : List (Given Value)) → targets v (node n ts) ≡ 0 → First (Off v) hs → Off v (beside names m (form (cleared n)) (cleared n) hs)
+  pub aside-off : (n : Node) (ts : Trees) (hs : List (Given Value)) → targets v (node n ts) ≡ 0 → First (Off v) hs → Off v (beside names (m .undefined) (form (cleared n)) (cleared n) hs)
   unfolding cleared
   aside-off n ts hs h g = beside-off v names m (form (cleared n)) (cleared n) hs (λ e. off-target v n ts h e) g
 

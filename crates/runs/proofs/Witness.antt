@@ -173,7 +173,7 @@ either false w u u′ e = e
 
 -- what a file makes, computed
 unfoldable pub made : Asked → File → Step ℕ → Bool
-unfolding cleared isMarked isMember isDelete form order childless isChain isPlain isAssignment choiceOf firstRole originOf kept takes then isRead flagsOf sortOf sameBeside isNothing besideOf mayKeep areValues mayHave isMarkedStep isMade some makesOwn asks someTurn roleNumber sameOrigin isUsing makesHere makesIn makesMarked makesDeclarator makesStatement makes
+unfolding cleared isMarked isMember isDelete form order childless isName isChain isPlain isAssignment choiceOf firstRole originOf kept beside firstOr lastOr takes then isRead flagsOf sortOf sameBeside isNothing besideOf mayKeep areValues mayHave isMarkedStep isMade some makesOwn asks someTurn roleNumber sameOrigin isUsing makesHere makesIn makesMarked makesDeclarator makesStatement makes
 made d f x = makes d f x
 
 -- Before and after the folded call `o.x` holds 40.

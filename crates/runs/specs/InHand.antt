@@ -1,16 +1,14 @@
--- What a step can have in hand, with any values. It follows `beside`, `kept` and `runOthers` of Run.
+-- What a step can have in hand, with any values: by `beside` and `kept` of Run, and as `runOthers` has it.
 use Prim.Native.Nat.{ℕ}
 use mathlib.Core.Bool.{Bool, true, false, cond, _&&_, _||_, not}
 use mathlib.Core.List.{List, [], _∷_}
 use lib.Dec.{eqb}
-use Rattle.records.specs.Flags.{isEval}
-use Rattle.records.specs.Script.{flagsOf}
 use Rattle.records.specs.Tree.{Node, Tree, Trees, node, none, more}
 use Rattle.records.specs.Place.{root}
 use Rattle.records.specs.declared.layout.NameFacts.{NameFacts}
 use Rattle.runs.specs.Hand.{static, private, computed, Beside, nothing, bareEval, targetName, opaqueTarget, member, Hand}
 use Rattle.runs.specs.Form.{is, cleared, form, childless}
-use Rattle.runs.specs.Run.{Turn, takes, then, kept}
+use Rattle.runs.specs.Run.{Turn, takes, then, kept, beside}
 
 -- what is beside a value, with the values in it left out: its sort, and its label
 unfoldable pub sortOf : {Value : Type 0} → Beside Value → ℕ × ℕ
@@ -28,23 +26,14 @@ sameBeside b c = eqb (sortOf b .0) (sortOf c .0) && eqb (sortOf b .1) (sortOf c 
 unfoldable pub isNothing : {Value : Type 0} → Beside Value → Bool
 isNothing b = eqb (sortOf b .0) 0
 
--- What a tree gives beside its value, and what a node has in hand of its first child beside the child's value, with the values
--- in it left out. A chain hands on what it has in hand.
+-- What a tree gives beside its value, and what a node has in hand of its first child, with the values left out.
 unfoldable mutual
   pub besideOf : List NameFacts → Tree → Beside (Unit {0})
-  besideOf names (node n kids) =
-      cond (is 4 n) (cond (isEval (flagsOf names (n .label))) bareEval nothing)
-      (cond (is 29 n) (targetName (n .label))
-      (cond (is 30 n) (opaqueTarget (n .label))
-      (cond (is 10 n) (member tt (static (n .label)))
-      (cond (is 11 n) (member tt (private (n .label)))
-      (cond (is 12 n) (member tt (computed tt))
-      (cond (is 13 n) (keptOf names (cleared n) kids)
-      nothing))))))
+  besideOf names (node n kids) = beside names tt (form (cleared n)) (cleared n) (firstOf names (cleared n) kids)
 
-  pub keptOf : List NameFacts → Node → Trees → Beside (Unit {0})
-  keptOf names n none = nothing
-  keptOf names n (more t ts) = kept (form n) n (besideOf names t)
+  pub firstOf : List NameFacts → Node → Trees → Hand (Unit {0})
+  firstOf names n none = []
+  firstOf names n (more t ts) = record { value = tt; beside = kept (form n) n (besideOf names t) } ∷ []
 
 -- what a node can have in hand of its first child beside the child's value: also nothing, if this is a chain, which may have
 -- been cut short

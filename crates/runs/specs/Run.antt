@@ -50,6 +50,18 @@ kept f n (aTarget a) = cond (isAssignment f) (aTarget a) nothing
 kept f n (opaqueTarget l) = cond (isAssignment f) (opaqueTarget l) nothing
 kept f n (member o k) = cond (is 14 n || is 24 n || isDelete n || isAssignment f || isChain f) (member o k) nothing
 
+-- what a node gives beside its value, with this in hand; this value stands where nothing is in hand
+unfoldable pub beside : {Value : Type 0} → List NameFacts → Value → Form → Node → Hand Value → Beside Value
+beside names w f n hs =
+    cond (isName f) (cond (isEval (flagsOf names (n .label))) bareEval nothing)
+    (cond (is 29 n) (aTarget (n .label))
+    (cond (is 30 n) (opaqueTarget (n .label))
+    (cond (is 10 n) (member (firstOr w hs .value) (static (n .label)))
+    (cond (is 11 n) (member (firstOr w hs .value) (private (n .label)))
+    (cond (is 12 n) (member (firstOr w hs .value) (computed (lastOr w hs)))
+    (cond (isChain f) (firstOr w hs .beside)
+    nothing))))))
+
 -- the list with one step more
 unfoldable pub listed : {Value : Type 0} → Step Value → Log Value → Log Value
 listed x l = record { steps = x ∷ l .steps; values = l .values }
@@ -123,23 +135,11 @@ module _ {Value Rest : Type 0} (names : List NameFacts) (m : Meaning Value Rest)
   own (assignment c) n role x s = stepped m true x s
   own (stepping c) n role x s = stepped m (isMarked n) x s
 
-  -- what a node gives beside its value, with this in hand
-  unfoldable pub beside : Form → Node → Hand Value → Beside Value
-  beside f n hs =
-      cond (isName f) (cond (isEval (flagsOf names (n .label))) bareEval nothing)
-      (cond (is 29 n) (aTarget (n .label))
-      (cond (is 30 n) (opaqueTarget (n .label))
-      (cond (is 10 n) (member (firstOr (m .undefined) hs .value) (static (n .label)))
-      (cond (is 11 n) (member (firstOr (m .undefined) hs .value) (private (n .label)))
-      (cond (is 12 n) (member (firstOr (m .undefined) hs .value) (computed (lastOr (m .undefined) hs)))
-      (cond (isChain f) (firstOr (m .undefined) hs .beside)
-      nothing))))))
-
   -- a node's step, and what the node gives
   unfoldable pub finished : Form → Node → Role → Hand Value → Part Value Rest (Given Value)
   finished f n role hs s =
       bind (own f n role (record { origin = originOf n role; hand = hs }) s)
-      (λ w s′. gave (record { value = w; beside = beside f n hs }) s′)
+      (λ w s′. gave (record { value = w; beside = beside names (m .undefined) f n hs }) s′)
 
   -- "Children run left to right, then the node's own step" (ECMA-262: arrays 13.2.4.2, objects 13.2.5.4, templates 13.2.8.6,
   -- members 13.3.2.1, new 13.3.5.1, calls 13.3.6.1, their arguments and spreads 13.3.8.1, import calls 13.3.10.1, tagged
