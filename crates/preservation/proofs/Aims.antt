@@ -21,13 +21,13 @@ use Rattle.walk.specs.This.{thisBlocks as thisBlocksAt}
 use Rattle.walk.specs.Effect.{hasEffect, mayHaveSideEffects, anyHasSideEffects, isLiteralValue}
 use Rattle.walk.specs.Target.{memberPartBlocksReorder, computedKeyBlocksReorder, mayDependOnSideEffect}
 use Rattle.runs.specs.Hand.{Given, only}
-use Rattle.runs.specs.Step.{Role, value, target, ofNode, Step}
+use Rattle.runs.specs.Step.{Role, value, target, Step}
 use Rattle.runs.specs.Form.{is, cleared, isMarked, isMember, isDelete, Form, constant, name, targetName, leaf, stepping, never, form, order, childless, isChain, isPlain, choiceOf, firstRole, originOf}
 use Rattle.runs.specs.State.{State, Out, gave, cut, stop, bind}
 use Rattle.runs.specs.Run.{all, takes, then, resolved, isRead, gathered, inTurn, stepped, held, own, beside, finished, runNode, run, runChildren, runOthers}
 use Rattle.runs.specs.Settled.{settled, thisBlocks}
 use Rattle.runs.specs.Shapes.{someIn, someOf}
-use Rattle.runs.specs.Facts.{aims, throughBy, through, thisUnblocked, GivesSame}
+use Rattle.runs.specs.Facts.{aims, throughBy, through, thisUnblocked, GivesSame, thisStep}
 use Rattle.preservation.proofs.Tests.{by-or, and-off, or-left, or-right}
 use Rattle.preservation.proofs.Tables.{marked-cleared, name-form}
 use Rattle.preservation.proofs.Ends.{Ends, gives, cuts, halts, ends-any, ends-map, ends-and, stepOf}
@@ -119,7 +119,7 @@ module _ {Value Rest : Type 0} (σ : Setting Value Rest) where
   unfolding runNode gathered childless order finished own bind
   leaf-run n cs u e = rw e (unfold stepped in refl)
 
-  this-step : (n : Node) → is 5 n ≡ true → stepOf {Value = Value} n value [] ≡ record { origin = ofNode 5 (n .label) (n .flags) value; hand = [] }
+  this-step : (n : Node) → is 5 n ≡ true → stepOf {Value = Value} n value [] ≡ thisStep (n .label) (n .flags)
   unfolding originOf isMember
   this-step n e = rw (eqb-true (n .kind) 5 e)
 
@@ -127,7 +127,7 @@ module _ {Value Rest : Type 0} (σ : Setting Value Rest) where
   unfolding aims
   leaf-why {s = s} n cs e g h =
       let x : Step Value = stepOf n value [] in
-      let x₅ : Step Value = record { origin = ofNode 5 (n .label) (n .flags) value; hand = [] } in
+      let x₅ : Step Value = thisStep (n .label) (n .flags) in
       let z : x ≡ x₅ = this-step n g in
       steady (λ u. record { value = m .reads x u; beside = beside names (m .undefined) leaf n [] }) (λ u. leaf-run n cs u e)
       (λ a u. ap (λ w. record { value = w; beside = beside names (m .undefined) leaf n [] }) (blind .reads x (off-through v n value [] (λ q. clash (is 4 n) (other-kind n 5 4 g refl) q) (λ q. clash (is 29 n) (other-kind n 5 29 g refl) q) refl) u a))

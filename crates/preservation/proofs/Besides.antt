@@ -27,7 +27,7 @@ sort-same b c e =
     let q = eqb-true (sortOf b .1) (sortOf c .1) y in
     λ i. (p i, q i)
 
-pub sort-cond : {A B : Type 0} (k : Bool) (b b′ : Beside A) (c c′ : Beside B) → sortOf b ≡ sortOf c → sortOf b′ ≡ sortOf c′ → sortOf (cond k b b′) ≡ sortOf (cond k c c′)
+sort-cond : {A B : Type 0} (k : Bool) (b b′ : Beside A) (c c′ : Beside B) → sortOf b ≡ sortOf c → sortOf b′ ≡ sortOf c′ → sortOf (cond k b b′) ≡ sortOf (cond k c c′)
 sort-cond true b b′ c c′ e g = e
 sort-cond false b b′ c c′ e g = g
 

@@ -43,11 +43,11 @@ chained-by (assignment true) n k e = clash false refl e
 chained-by (assignment false) n k e = clash false refl e
 chained-by (stepping c) n k e = clash false refl e
 
-pub name-kind : (n : Node) → isName (form (cleared n)) ≡ true → is 4 n ≡ true
+name-kind : (n : Node) → isName (form (cleared n)) ≡ true → is 4 n ≡ true
 unfolding cleared
 name-kind n e = named-by (form (cleared n)) (cleared n) (kinds (cleared n)) e
 
-pub chain-kind : (n : Node) → isChain (form (cleared n)) ≡ true → is 13 n ≡ true
+chain-kind : (n : Node) → isChain (form (cleared n)) ≡ true → is 13 n ≡ true
 unfolding cleared
 chain-kind n e = chained-by (form (cleared n)) (cleared n) (kinds (cleared n)) e
 
@@ -75,7 +75,7 @@ chain-test n = by (is 13 n) (isChain (form (cleared n))) refl refl
 pub other-kind : (n : Node) (k l : ℕ) → is k n ≡ true → eqb k l ≡ false → is l n ≡ false
 other-kind n k l e g = rw (eqb-true (n .kind) k e) g
 
--- an expression is of no other kind
+-- an expression's kind is below 25, or 28
 pub expression-not : (kind k : ℕ) → isExpression kind ≡ true → ltb k 25 ≡ false → eqb 28 k ≡ false → eqb kind k ≡ false
 unfolding isExpression
 expression-not kind k e g h = ne-eqb kind k (λ q. by-or (ltb kind 25) (eqb kind 28) (λ a. clash (ltb k 25) g (rw q at a)) (λ a. clash (eqb 28 k) h (two a q)) e)
@@ -85,6 +85,16 @@ expression-not kind k e g h = ne-eqb kind k (λ q. by-or (ltb kind 25) (eqb kind
       where
         same : (x : ℕ) → eqb x x ≡ true
         same x = eq-eqb x x refl
+
+-- a link is of one of four kinds
+pub link-not : (n : Node) (k : ℕ) → (isMemberExpression n || is 14 n) ≡ true → eqb 10 k ≡ false → eqb 11 k ≡ false → eqb 12 k ≡ false → eqb 14 k ≡ false → is k n ≡ false
+link-not n k e a b c d =
+    by-or (is 10 n || is 11 n || is 12 n) (is 14 n)
+    (λ q. by-or (is 10 n || is 11 n) (is 12 n) (λ q. by-or (is 10 n) (is 11 n) (λ q. other-kind n 10 k q a) (λ q. other-kind n 11 k q b) q) (λ q. other-kind n 12 k q c) q)
+    (λ q. other-kind n 14 k q d) e
+
+pub stopping-not : (n : Node) (k : ℕ) → (is 26 n || is 25 n) ≡ true → eqb 26 k ≡ false → eqb 25 k ≡ false → is k n ≡ false
+stopping-not n k e a b = by-or (is 26 n) (is 25 n) (λ q. other-kind n 26 k q a) (λ q. other-kind n 25 k q b) e
 
 -- a link that is no member is a call
 pub link-call : (n : Node) → isLink (n .kind) ≡ true → isMemberExpression n ≡ false → is 14 n ≡ true

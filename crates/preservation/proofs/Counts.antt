@@ -36,10 +36,10 @@ times-sum zero j c = let z : 0 + j ≡ j = omega arith in rw z (omega arith)
 times-sum (suc i) j c = let h = times-sum i j c in let z : suc i + j ≡ suc (i + j) = omega arith in rw z (omega (arith, h))
 
 -- the nodes that `preserveIndirectAccess` puts in
-abbrev zeroAt : ℕ → Node
+abbrev pub zeroAt : ℕ → Node
 zeroAt p = record { kind = 1; flags = 0; label = 65535; position = p }
 
-abbrev rowAt : ℕ → Node
+abbrev pub rowAt : ℕ → Node
 rowAt p = record { kind = 28; flags = 0; label = 0; position = p }
 
 -- Each node names the name that `named` gives; where v stood, at least `gain` is lost.

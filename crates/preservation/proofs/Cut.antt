@@ -1,5 +1,5 @@
--- A meaning cut down to the steps that a file can make: at any other it does nothing. What the facts of the file say of the
--- meaning is so of every step of this one.
+-- A meaning cut down to the steps that a file can make: any other gives undefined and changes nothing. What the facts of the
+-- file say of the meaning is so of every step of this one.
 use Prim.Native.Nat.{ℕ}
 use mathlib.Core.Bool.{Bool, true, false, cond}
 use mathlib.Core.List.{List}

@@ -1,4 +1,5 @@
--- Where the file can make every step, the meaning cut down to the file runs as the meaning does.
+-- Trees and programs whose every step and choice the file can make run alike under the meaning and under the one that is cut
+-- down to the file.
 use Prim.Native.Nat.{ℕ}
 use mathlib.Core.Bool.{Bool, true, false, cond, _&&_, _||_, Bool·beq}
 use mathlib.Core.List.{List, [], _∷_}
@@ -125,7 +126,7 @@ module _ {Value Rest : Type 0} (f : File) (m : Meaning Value Rest) where
     unfolding run runNode asks
 
     -- the run of a tree
-    pub run-cut : (t : Tree) (role : Role) → Within Value f role t → (s : S) → run names m t role s ≡ run names m′ t role s
+    run-cut : (t : Tree) (role : Role) → Within Value f role t → (s : S) → run names m t role s ≡ run names m′ t role s
     run-cut (node n ts) role h s =
         ap (λ o. bind (gathered (form (cleared n)) o s) (finished names m (form (cleared n)) (cleared n) role)) (children-cut ts (cleared n) role (node-steps Value f n ts role h) (node-children Value f n ts role h) s)
         ∙ ends-same (gathered-fits Value names m′ (cleared n) ts _ s (hand-fits Value names m′ ts (cleared n) role s)) (λ hs s′ e.

@@ -1,7 +1,7 @@
 -- Where a search enters the first child of a node and this is the name: the node evaluates it for its value, and of what the
 -- initializer gives in its place it keeps the value alone.
 use Prim.Native.Nat.{ℕ}
-use mathlib.Core.Bool.{Bool, true, false, cond, _&&_, _||_}
+use mathlib.Core.Bool.{Bool, true, false, cond, _&&_, _||_, and-assoc}
 use mathlib.Core.Path.{_≡_, refl, sym, _∙_}
 use lib.Dec.{eqb}
 use borrow.Author.Tests.{not-true}
@@ -19,27 +19,13 @@ use Rattle.runs.specs.Hand.{Beside, nothing as nothing-beside, bareEval, target
 use Rattle.runs.specs.Step.{Role, value}
 use Rattle.runs.specs.Form.{is, cleared, isDelete, Form, chain, property, importing, sequence, stepping, never, logical, conditional, optionally, order, isChain, isPlain, isAssignment, firstRole}
 use Rattle.runs.specs.Run.{kept}
-use Rattle.preservation.proofs.Tests.{by-or, and-off, and-on, and-mid, same-cond}
-use Rattle.preservation.proofs.Tables.{choosing, formOf, shapeKinds, or-assoc}
-use Rattle.preservation.proofs.ByKind.{other-kind, chain-child as link-below}
+use Rattle.preservation.proofs.Tests.{and-off, and-on, and-mid, same-cond}
+use Rattle.preservation.proofs.Tables.{choosing, formOf, shapeKinds}
+use Rattle.preservation.proofs.ByKind.{other-kind, link-not, stopping-not, chain-child}
 
 undelete : (n : Node) → is 9 n ≡ false → isDelete (cleared n) ≡ false
 unfolding isDelete cleared
 undelete n e = rw e
-
--- a link is of one of four kinds
-link-not : (n : Node) (k : ℕ) → (isMemberExpression n || is 14 n) ≡ true → eqb 10 k ≡ false → eqb 11 k ≡ false → eqb 12 k ≡ false → eqb 14 k ≡ false → is k n ≡ false
-link-not n k e a b c d =
-    by-or (is 10 n || is 11 n || is 12 n) (is 14 n)
-    (λ q. by-or (is 10 n || is 11 n) (is 12 n) (λ q. by-or (is 10 n) (is 11 n) (λ q. other-kind n 10 k q a) (λ q. other-kind n 11 k q b) q) (λ q. other-kind n 12 k q c) q)
-    (λ q. other-kind n 14 k q d) e
-
-stopping-not : (n : Node) (k : ℕ) → (is 26 n || is 25 n) ≡ true → eqb 26 k ≡ false → eqb 25 k ≡ false → is k n ≡ false
-stopping-not n k e a b = by-or (is 26 n) (is 25 n) (λ q. other-kind n 26 k q a) (λ q. other-kind n 25 k q b) e
-
-regroup : (x y z : Bool) → (x && y && z) ≡ false → (x && (y && z)) ≡ false
-regroup true y z e = e
-regroup false y z e = refl
 
 kept-none : {Value : Type 0} (f : Form) (n : Node) (b : Beside Value) → is 14 n ≡ false → is 24 n ≡ false → isDelete n ≡ false → isAssignment f ≡ false → isChain f ≡ false → kept f n b ≡ nothing-beside
 unfolding kept
@@ -105,12 +91,12 @@ module _ (v : ℕ) (r : Tree) where
   of-kind f n k t e a b c d g = of-others f n t (other-kind n k 14 e a) (other-kind n k 24 e b) (other-kind n k 9 e c) d g
 
   -- the child of a chain is no name
-  chain-child : (n : Node) (t : Tree) (ts : Trees) → is 13 n ≡ true → standUnder n 0 (more t ts) ≡ true → isSpecificId v (root t) ≡ false
+  unnamed-child : (n : Node) (t : Tree) (ts : Trees) → is 13 n ≡ true → standUnder n 0 (more t ts) ≡ true → isSpecificId v (root t) ≡ false
   unfolding isSpecificId
-  chain-child n t ts e h = not-name (root t) (link-below n t ts e h)
+  unnamed-child n t ts e h = not-name (root t) (chain-child n t ts e h)
     where
       not-name : (k : Node) → isLink (k .kind) ≡ true → (is 4 k && eqb (k .label) v) ≡ false
-      not-name k g = rw (link-not k 4 (sym (or-assoc (is 10 k) (is 11 k) (is 12 k) (is 14 k)) ∙ g) refl refl refl refl)
+      not-name k g = rw (link-not k 4 g refl refl refl refl)
 
   of-chain : (n : Node) (t : Tree) (ts : Trees) → is 13 n ≡ true → standUnder n 0 (more t ts) ≡ true → Entering chain (cleared n) t
   unfolding isAssignment isChain order
@@ -119,7 +105,7 @@ module _ (v : ℕ) (r : Tree) where
     untagged = unfold cleared in rw (other-kind n 13 24 e refl);
     undeleted = undelete n (other-kind n 13 9 e refl);
     unassigned = refl;
-    unchained = chain-child n t ts e h;
+    unchained = unnamed-child n t ts e h;
   }
 
   -- a called name keeps its place
@@ -143,7 +129,7 @@ module _ (v : ℕ) (r : Tree) where
   tag-enters true n t ts e h d = (and-mid (is 24 n) (isSpecificId v (root t)) (isMemberTag r) e, d, refl, refl)
   tag-enters false n t ts e h d = record {
     uncalled = unfold cleared in h;
-    untagged = unfold cleared in regroup (is 24 n) (isSpecificId v (root t)) (isMemberTag r) e;
+    untagged = unfold cleared in sym (and-assoc (is 24 n) (isSpecificId v (root t)) (isMemberTag r)) ∙ e;
     undeleted = d;
     unassigned = refl;
     unchained = refl;

@@ -1,4 +1,4 @@
--- What is in hand at a node of a run is what the file lets it have in hand.
+-- What a run has in hand at a node is what it can have there (InHand).
 use mathlib.Core.Bool.{Bool, true, false, cond, _&&_, _||_}
 use mathlib.Core.List.{List, [], _∷_}
 use mathlib.Core.Path.{_≡_, refl, _∙_}

@@ -125,7 +125,7 @@ module _ (Value : Type 0) (f : File) where
       let c : WithinDeclarators Value f (move .kind) (declaratorsAt p (φ .into)) = other-parts Value f (declarator-made Value f (move .kind)) d₀ (declaratorsAt p (φ .into)) e in
       let old : Within Value f value (φ .into) = place-tree (move .kind) p (φ .into) (move .after) (c, d) in
       let fits = fits-here f P Q φ move accepted fine in
-      let placeable : Placeable Value f (φ .name) (φ .initializer) = record { steps = r; expression = fit-parts names (φ .initializer) (fits .1) .2; standing = fit-parts names (φ .initializer) (fits .1) .0; plain = eval-here f P Q φ move accepted fine; other = known-name f P Q φ move accepted fine .1 } in
+      let placeable : Placeable Value f (φ .name) (φ .initializer) = record { steps = r; expression = fit-parts names (φ .initializer) (fits .1) .2; standing = fit-parts names (φ .initializer) (fits .1) .0; no-eval = eval-here f P Q φ move accepted fine; plain = known-name f P Q φ move accepted fine .1 } in
       let new = replaced-within Value f (φ .name) (φ .initializer) (contextOf f) (φ .into) (move .tree) (fit-parts names (φ .into) (fits .0) .0) (move .placed) placeable old in
       let (x, y) = place-other (move .kind) p (φ .into) (move .tree) (move .after) (c, d) new in (
         (subst (λ X. WithinProgram Value f X) (sym (move .stood)) (join Value f statement-made (move .before) (declaration (move .kind) (move .earlier) ∷ []) a (join-declaration (move .kind) (move .earlier) [] b (none-made Value f statement-made))), r, old),

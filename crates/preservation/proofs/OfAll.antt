@@ -1,4 +1,4 @@
--- The facts of a file, of every step: what a meaning has that does nothing at steps that the file can't make (Cut).
+-- The facts of a file, asked of every step. They are true of the meaning that is cut down to the file (Cut).
 use Prim.Native.Nat.{ℕ}
 use mathlib.Core.Bool.{true, false}
 use mathlib.Core.List.{List}

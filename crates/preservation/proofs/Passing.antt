@@ -122,10 +122,6 @@ module _ {Value Rest : Type 0} (σ : Setting Value Rest) where
   drop-only o′ f p h e =
       sym (shifted-ends _ f p (λ a s q. h a q _ s)) ∙ ap (λ o. bind o f) e ∙ shifted-ends _ f (only-same _ o′ e p) (λ a s q. h a q _ s)
 
-  pub drop-bind : {A B : Type 0} (o o′ : O A) (f : A → S → O B) → ((a : A) → Framed (f a)) → drop o ≡ drop o′ → drop (bind o f) ≡ drop (bind o′ f)
-  unfolding drop
-  drop-bind o o′ f h e = sym (shifted-bind _ o f (λ a s. h a _ s)) ∙ ap (λ o. bind o f) e ∙ shifted-bind _ o′ f (λ a s. h a _ s)
-
   pub first-bind : {A B : Type 0} (c : S → O A) (f : A → S → O B) (s : S) → first (λ s. bind (c s) f) s ≡ bind (first c s) f
   unfolding first
   first-bind c f s = sym (bind-assoc _ _ _)
@@ -174,7 +170,7 @@ module _ {Value Rest : Type 0} (σ : Setting Value Rest) where
   drop-shift a (cut s) = ap cut (put-put v _ a s)
   drop-shift a (stop l) = unfold Put in refl
 
-  -- Two outcomes that are the same but for v stay so, whatever comes behind that doesn't tell its value. (It may set v.)
+  -- The outcome doesn't go by v's value, v itself apart, which may be set.
   abbrev pub Forgets : {A : Type 0} → (S → O A) → Type 0
   Forgets c = (a : Value) (s : S) → drop (c (moved (Put v a) s)) ≡ drop (c s)
 
@@ -187,8 +183,12 @@ module _ {Value Rest : Type 0} (σ : Setting Value Rest) where
   drop-once (cut s) f h = sym (ap cut (put-put v (m .undefined) (m .undefined) s))
   drop-once (stop l) f h = refl
 
+  -- two outcomes that are the same but for v stay so, with such a part behind them
   pub forget-bind : {A B : Type 0} (o o′ : O A) (f : A → S → O B) → ((a : A) → Forgets (f a)) → drop o ≡ drop o′ → drop (bind o f) ≡ drop (bind o′ f)
   forget-bind o o′ f h e = drop-once o f h ∙ ap (λ o. drop (bind o f)) e ∙ sym (drop-once o′ f h)
+
+  pub drop-bind : {A B : Type 0} (o o′ : O A) (f : A → S → O B) → ((a : A) → Framed (f a)) → drop o ≡ drop o′ → drop (bind o f) ≡ drop (bind o′ f)
+  drop-bind o o′ f h e = forget-bind o o′ f (λ a. framed-forgets (f a) (h a)) e
 
   pub calm-drop : Calm → {A : Type 0} (c : S → O A) → Framed c → (s : S) → drop (first c s) ≡ drop (c s)
   calm-drop q c h s = rw (calm-first q c s, h (worth (s .store)) s) (drop-shift _ (c s))

@@ -91,7 +91,7 @@ module _ {Value Rest : Type 0} (σ : Setting Value Rest) where
   gave-forgets : {A : Type 0} (x : A) → Alike (gave x)
   gave-forgets x = framed-forgets σ (gave x) (λ a s. gave-on (Put v a) s)
 
-  -- A step of a declarator or a kind 6 statement doesn't tell the value of v. It may set it.
+  -- A step of a declarator or a kind 6 statement doesn't read v. It may set it.
   set-same : (s s′ : Store Value Rest) (a : Value) → AgreeBut v s s′ → set v a s ≡ set v a s′
   unfolding set
   set-same s s′ a h = λ i. record { names = fun-ext (λ n. at n (eqb n v) refl) i; rest = h .rest i }

@@ -1,6 +1,6 @@
 -- What a search leaves makes no step and no choice that the tree and the initializer don't make.
 use Prim.Native.Nat.{ℕ}
-use mathlib.Core.Bool.{Bool, true, false, cond, _&&_, _||_, not}
+use mathlib.Core.Bool.{Bool, true, false, cond, _&&_, _||_, not, or-false}
 use mathlib.Core.List.{List, [], _∷_}
 use mathlib.Core.Path.{_≡_, refl, sym, ap, _∙_, subst}
 use Rattle.records.specs.Flags.{isEval}
@@ -24,6 +24,7 @@ use Rattle.preservation.proofs.Tests.{and-then, and-on, by-or, or-left,
 use Rattle.preservation.proofs.Tables.{walked-cleared, cleared-once, form-shape, shape-kinds}
 use Rattle.preservation.proofs.Kept.{under, in-row}
 use Rattle.preservation.proofs.Uses.{specific}
+use Rattle.preservation.proofs.Counts.{zeroAt, rowAt}
 use Rattle.preservation.proofs.Bare.{gives-nothing}
 use Rattle.preservation.proofs.Entering.{Entering, Enters, kept-value, value-of-all, plan-enters}
 use Rattle.preservation.proofs.MakesAt.{beside-at, makes-at}
@@ -52,8 +53,8 @@ module _ (Value : Type 0) (f : File) (v : ℕ) (r : Tree) where
     pub steps : Within Value f value r
     pub expression : isExpression (root r .kind) ≡ true
     pub standing : placed r ≡ true
-    pub plain : evalWhole names (given r) ≡ false
-    pub other : isEval (flagsOf names v) ≡ false
+    pub no-eval : evalWhole names (given r) ≡ false
+    pub plain : isEval (flagsOf names v) ≡ false
 
   -- A tree and what a search leaves of it. Where the tree isn't the name, it gives the same beside its value; and where a node
   -- keeps nothing of what r gives, it has no more in hand of what is left than of the tree.
@@ -171,7 +172,7 @@ module _ (Value : Type 0) (f : File) (v : ℕ) (r : Tree) where
   -- r gives nothing or a member beside its value, and that isn't kept
   keeps-by : (b : Bool) (n : Node) (t : Tree) → isMemberTag r ≡ b → Placeable → Entering v r (form n) n t → isSpecificId v (root t) ≡ true → KeepsNone n
   keeps-by true n t q p e g = ap isNothing (kept-value v r (form n) n t e g q (besideOf names r)) ∙ (unfold isNothing sortOf in refl)
-  keeps-by false n t q p e g = nothing-kept (form n) n (besideOf names r) (ap isNothing (gives-nothing names r (p .standing) (p .expression) (unfold evalWhole in p .plain) q) ∙ (unfold isNothing sortOf in refl))
+  keeps-by false n t q p e g = nothing-kept (form n) n (besideOf names r) (ap isNothing (gives-nothing names r (p .standing) (p .expression) (unfold evalWhole in p .no-eval) q) ∙ (unfold isNothing sortOf in refl))
 
   keeps-none : (n : Node) (t : Tree) → Placeable → Entering v r (form n) n t → isSpecificId v (root t) ≡ true → KeepsNone n
   keeps-none n t p e g = keeps-by (isMemberTag r) n t refl p e g
@@ -211,44 +212,30 @@ module _ (Value : Type 0) (f : File) (v : ℕ) (r : Tree) where
       and-none true = refl
       and-none false = refl
 
-  abbrev one : ℕ → Node
-  one p = record { kind = 1; flags = 0; label = 65535; position = p }
-
-  abbrev pair : ℕ → Node
-  pair p = record { kind = 28; flags = 0; label = 0; position = p }
-
-  quiet : (d : Asked) (p : ℕ) (role : Role) → (asks d names (form (cleared (one p))) (cleared (one p)) role ≡ false) × (asks d names (form (cleared (pair p))) (cleared (pair p)) role ≡ false)
+  quiet : (d : Asked) (p : ℕ) (role : Role) → (asks d names (form (cleared (zeroAt p))) (cleared (zeroAt p)) role ≡ false) × (asks d names (form (cleared (rowAt p))) (cleared (rowAt p)) role ≡ false)
   unfolding asks makesOwn isMade choiceOf form cleared
   quiet choice p role = (refl, refl)
   quiet (step b) p role = (refl, refl)
 
-  aside-row : (d : Asked) (x : Step Value) (p : ℕ) (t : Tree) (role : Role) → makesInRow names d x (more (node (one p) none) (more t none)) role ≡ (makesIn names d x t value || false)
+  aside-row : (d : Asked) (x : Step Value) (p : ℕ) (t : Tree) (role : Role) → makesInRow names d x (more (node (zeroAt p) none) (more t none)) role ≡ (makesIn names d x t value || false)
   unfolding makesIn
-  aside-row d x p t role = rw (still-here d x (cleared (one p)) role none (quiet d p role .0))
-
-  or-none : (b : Bool) → (b || false) ≡ true → b ≡ true
-  or-none true e = refl
-  or-none false e = e
+  aside-row d x p t role = rw (still-here d x (cleared (zeroAt p)) role none (quiet d p role .0))
 
   aside-within : (t : Tree) (role : Role) → Within Value f value t → Within Value f role (preserveIndirectAccess t)
   unfolding preserveIndirectAccess
-  aside-within (node n ts) role h d x e = h d x (or-none (makesIn names d x (node n ts) value) (sym (aside-by role) ∙ e))
+  aside-within (node n ts) role h d x e = h d x (sym (or-false (makesIn names d x (node n ts) value)) ∙ sym (aside-by role) ∙ e)
     where
-      aside-by : (role : Role) → makesIn names d x (node (pair (n .position)) (more (node (one (n .position)) none) (more (node n ts) none))) role ≡ (makesIn names d x (node n ts) value || false)
-      aside-by role = unfold makesIn in (rw (still-here d x (cleared (pair (n .position))) role (more (node (one (n .position)) none) (more (node n ts) none)) (quiet d (n .position) role .1)) (aside-row d x (n .position) (node n ts) _))
+      aside-by : (role : Role) → makesIn names d x (node (rowAt (n .position)) (more (node (zeroAt (n .position)) none) (more (node n ts) none))) role ≡ (makesIn names d x (node n ts) value || false)
+      aside-by role = unfold makesIn in (rw (still-here d x (cleared (rowAt (n .position))) role (more (node (zeroAt (n .position)) none) (more (node n ts) none)) (quiet d (n .position) role .1)) (aside-row d x (n .position) (node n ts) _))
 
   aside-beside : (t : Tree) → isNothing (besideOf names (preserveIndirectAccess t)) ≡ true
   unfolding preserveIndirectAccess besideOf beside form cleared isName isChain order isNothing sortOf
   aside-beside (node n ts) = refl
 
-  aside-kind : (t : Tree) → is 13 (root (preserveIndirectAccess t)) ≡ false
-  unfolding preserveIndirectAccess
-  aside-kind (node n ts) = refl
-
   child-aside : (n : Node) (t t′ : Tree) (ts : Trees) → isSpecificId v (root t) ≡ true → Placeable → isChain (form n) ≡ false → ((role : Role) → firstRole (form n) n role ≡ value) → Follows t t′ → FollowsChildren n (more t ts) (more (preserveIndirectAccess t′) ts)
   child-aside n t t′ ts e p c g h = record {
     first-same = λ q. clash (isChain (form n)) c q;
-    hand = hand-both n t (preserveIndirectAccess t′) ts ts (λ b q. name-keep n t b e (p .other) (keep-nothing n (preserveIndirectAccess t′) b (nothing-kept (form n) n (besideOf names (preserveIndirectAccess t′)) (aside-beside t′)) q)) (λ w hs e. e);
+    hand = hand-both n t (preserveIndirectAccess t′) ts ts (λ b q. name-keep n t b e (p .plain) (keep-nothing n (preserveIndirectAccess t′) b (nothing-kept (form n) n (besideOf names (preserveIndirectAccess t′)) (aside-beside t′)) q)) (λ w hs e. e);
     within = λ role w.
         row-join Value f (preserveIndirectAccess t′) ts (firstRole (form n) n role)
         (aside-within t′ (firstRole (form n) n role) (h .within value (λ e. refl) (subst (λ (ρ : Role). Within Value f ρ t) (g role) (row-first Value f t ts (firstRole (form n) n role) w))))
@@ -273,9 +260,9 @@ module _ (Value : Type 0) (f : File) (v : ℕ) (r : Tree) where
   plan-order tag n t ts a b e x y = tag-order n t ts a b e x y
 
   -- A node.
-  walked-root : (n : Node) → (walked n .kind ≡ n .kind) × (walked n .label ≡ n .label)
+  walked-kind : (n : Node) → walked n .kind ≡ n .kind
   unfolding walked
-  walked-root n = (refl, refl)
+  walked-kind n = refl
 
   node-like : (n : Node) (ts ts′ : Trees) → FollowsChildren n ts ts′ → sortOf (beside names tt (form n) n (firstOf names n ts′)) ≡ sortOf (beside names tt (form n) n (firstOf names n ts))
   node-like n ts ts′ h = beside-like names tt tt (form n) n (firstOf names n ts′) (firstOf names n ts) (h .first-same)
@@ -289,7 +276,7 @@ module _ (Value : Type 0) (f : File) (v : ℕ) (r : Tree) where
   node-keep n ts ts′ k b h e =
       by-or (sameBeside (kept (form k) k (besideOf names (node (walked n) ts′))) b) (is 13 (walked n) && isNothing b)
       (λ q. or-left _ _ (same-sort (kept (form k) k (besideOf names (node n ts))) b (sym (kept-like (form k) k (besideOf names (node (walked n) ts′)) (besideOf names (node n ts)) (node-same n ts ts′ h)) ∙ sort-same (kept (form k) k (besideOf names (node (walked n) ts′))) b q)))
-      (λ q. or-right (sameBeside (kept (form k) k (besideOf names (node n ts))) b) _ (rw (walked-root n .0) at q)) e
+      (λ q. or-right (sameBeside (kept (form k) k (besideOf names (node n ts))) b) _ (rw (walked-kind n) at q)) e
 
   node-within : (n : Node) (ts ts′ : Trees) → FollowsChildren (cleared n) ts ts′ → (role : Role) → Within Value f role (node n ts) → (d : Asked) (x : Step Value) → (makesHere names d x (cleared n) role ts′ || makesInRow names d x ts′ (firstRole (form (cleared n)) (cleared n) role)) ≡ true → makes d f x ≡ true
   node-within n ts ts′ h role g d x e =
@@ -324,7 +311,7 @@ module _ (Value : Type 0) (f : File) (v : ℕ) (r : Tree) where
   at-name : (n : Node) (ts : Trees) → isSpecificId v n ≡ true → Placeable → Follows (node n ts) (at (n .position) r)
   at-name n ts e p = record {
     same = λ q. clash (isSpecificId v n) q e;
-    keep = λ k z b g. name-keep k (node n ts) b e (p .other) (keep-nothing k (at (n .position) r) b (ap (λ b. isNothing (kept (form k) k b)) (beside-at names (n .position) r) ∙ z e) g);
+    keep = λ k z b g. name-keep k (node n ts) b e (p .plain) (keep-nothing k (at (n .position) r) b (ap (λ b. isNothing (kept (form k) k b)) (beside-at names (n .position) r) ∙ z e) g);
     within = λ role s g. subst (λ (ρ : Role). Within Value f ρ (at (n .position) r)) (sym (s e)) (λ d x q. p .steps d x (sym (makes-at names (n .position) d x r value) ∙ q));
   }
 

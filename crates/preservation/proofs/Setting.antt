@@ -1,7 +1,6 @@
 -- All that a fold is given: a name, its initializer, and what the file's facts and acceptance say of them.
 use Prim.Native.Nat.{ℕ}
 use mathlib.Core.Bool.{true, false, _&&_, not}
-use mathlib.Core.List.{[]}
 use mathlib.Core.Path.{_≡_}
 use lib.ListN.{length}
 use lib.Dec.{eqb, ltb}
@@ -15,11 +14,11 @@ use Rattle.records.proofs.Tests.{both, neither}
 use Rattle.walk.specs.Context.{contextOf, factsOf}
 use Rattle.walk.specs.Unsettled.{unsettled, symbolValueMayChange, isClosedOverBlockScopedRead}
 use Rattle.runs.specs.Store.{Store}
-use Rattle.runs.specs.Step.{Step, ofNode, value}
+use Rattle.runs.specs.Step.{Step}
 use Rattle.runs.specs.Meaning.{done, Meaning}
 use Rattle.runs.specs.Run.{resolved}
 use Rattle.runs.specs.Settled.{settled}
-use Rattle.runs.specs.Facts.{through, isOfNode, thisUnblocked}
+use Rattle.runs.specs.Facts.{through, isOfNode, thisUnblocked, thisStep}
 use Rattle.preservation.proofs.Words.{Blinds}
 use Rattle.preservation.proofs.Uses.{reads, targets}
 
@@ -27,7 +26,7 @@ use Rattle.preservation.proofs.Uses.{reads, targets}
 abbrev pub ThisKept : {Value Rest : Type 0} → Meaning Value Rest → Type 0
 ThisKept {Value = Value} {Rest = Rest} m =
     (x : Step Value) → isOfNode (x .origin) ≡ true → (s s′ : Store Value Rest) (w : Value) → m .acts x s ≡ done w s′
-    → (label flags : ℕ) → m .reads (record { origin = ofNode 5 label flags value; hand = [] }) s′ ≡ m .reads (record { origin = ofNode 5 label flags value; hand = [] }) s
+    → (label flags : ℕ) → m .reads (thisStep label flags) s′ ≡ m .reads (thisStep label flags) s
 
 pub record Setting (Value Rest : Type 0) : Type 0 where
   pub file : File

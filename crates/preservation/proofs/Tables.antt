@@ -220,7 +220,7 @@ unfolding formOf
 property-form true = refl
 property-form false = refl
 
-pub or-assoc : (x y z u : Bool) → (x || y || z || u) ≡ ((x || y || z) || u)
+or-assoc : (x y z u : Bool) → (x || y || z || u) ≡ ((x || y || z) || u)
 or-assoc true y z u = refl
 or-assoc false true z u = refl
 or-assoc false false true u = refl

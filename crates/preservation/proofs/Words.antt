@@ -1,4 +1,4 @@
--- The facts of one name as equations: what isn't done through it neither reads nor writes it.
+-- The facts of one name as equations: what isn't done through it doesn't read it, and no such step of a node writes it.
 use Prim.Native.Nat.{ℕ}
 use mathlib.Core.Bool.{Bool, true, false, cond}
 use mathlib.Core.Path.{_≡_, refl, ap, _∙_, fun-ext}

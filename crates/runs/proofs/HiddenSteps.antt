@@ -88,10 +88,10 @@ all-accepted : (refusal (print with-other) 1000 ≡ 0) × (refusal (print with-e
 unfolding computed
 all-accepted = (refl, refl, refl)
 
--- Where v is read: its one read stands in the first two, and each makes its step.
-reads-stand : (readsStand with-other 0 ≡ true) × (readsStand with-eval 0 ≡ true)
+-- Where v is read: its one read stands in the first two, as it does in Witness's file, and each makes its step.
+reads-stand : (readsStand with-other 0 ≡ true) × (readsStand with-eval 0 ≡ true) × (readsStand (fileOf facts statements) 0 ≡ true)
 unfolding readsStand contextOf factsOf nameRead usesIn initializerTree initializerTrees statementTrees allTrees
-reads-stand = (refl, refl)
+reads-stand = (refl, refl, refl)
 
 makes-other : makesAct with-other otherStep ≡ true
 unfolding made

@@ -1,7 +1,7 @@
 -- The hypotheses of demand 3 can be met: a file, the fold made in it, and a meaning with steps that write and that stop, of
 -- which all facts are true. The fold brings a call into `o.x = v`, while another call of the same kind, label and flags does
--- change what `o.x` gives. Direct evals, patterns, usings and kind 6 statements do whatever you like; the file has none
--- (HiddenSteps: files that do). Assumes nothing.
+-- change what `o.x` gives. Direct evals, patterns, usings and kind 6 statements are as any other meaning has them; the file has
+-- none (HiddenSteps has files with some). Assumes nothing.
 use Prim.Native.Nat.{ℕ, _+_}
 use mathlib.Core.Bool.{Bool, true, false, cond, _&&_, _||_, and-false, false≢true}
 use mathlib.Core.List.{List, [], _∷_}
@@ -90,7 +90,7 @@ looks (ofNode kind label flags role) r = cond (eqb kind 10) (r .0) (cond (eqb ki
 looks (ofDeclarator k a) r = r .1
 looks ofOther r = r .1
 
--- An assignment sets `o.x`; a call of the value 12 adds to it; every other step counts.
+-- An assignment sets `o.x`; a call of the value 12 adds to it; every other node's step counts.
 unfoldable pub changes : Origin → List (Given ℕ) → Bench → Bench
 changes (ofNode kind label flags role) hs r =
     cond (eqb kind 20) (lastOr 0 hs, r .1) (cond (eqb kind 14 && eqb (callee hs) 12) (r .0 + 50, r .1) (r .0, r .1 + 1))
@@ -185,7 +185,7 @@ kept-here free s s′ x before through-it =
     let same : s .store .rest .0 ≡ s′ .store .rest .0 = ap (λ u. u .store .rest .0) (sym here) ∙ there in
     ((λ p q r y y′ u u′ e e′. ap valueOf (sym e) ∙ same ∙ ap valueOf e′), (((λ p q r. absurd (false≢true p)), ((tt, tt), tt)), ((tt, tt), tt)))
 
--- Stores that differ at one name alone, and a step through nothing of it.
+-- Stores that differ at one name alone.
 alike-by : (b : Bool) (a : ℕ) (x : Step ℕ) (s s′ : Store ℕ Bench) → AgreeBut a s s′ → ActsAlike a (acts b x s) (acts b x (record { names = s′ .names; rest = s .rest }))
 unfolding acts writes
 alike-by true a x s s′ h = both-stop
@@ -200,7 +200,7 @@ unfolding acts storeOf writes
 unwritten-by true a x s e = refl
 unwritten-by false a x s e = second (through a x) _ _ e
 
--- what is asked of a step or choice that is as the other meaning has it: it doesn't read a name
+-- what is asked of a step or choice that is as the other meaning has it: it reads no name
 abbrev pub Unread : Meaning ℕ Bench → Asked → Step ℕ → Type 0
 Unread free choice x = (a : ℕ) (s s′ : Store ℕ Bench) → AgreeBut a s s′ → free .chooses x s ≡ free .chooses x s′
 Unread free (step false) x = (a : ℕ) (s s′ : Store ℕ Bench) → AgreeBut a s s′ → free .reads x s ≡ free .reads x s′
@@ -279,7 +279,8 @@ module _ (free : Meaning ℕ Bench) (ss : List Statement)
     targets-kept = (kept-here free, tt);
   }
 
--- The file makes no direct eval, and no step of a pattern, a using or a kind 6 statement; so its facts are true whatever these do.
+-- The file makes no direct eval, and no step of a pattern, a using or a kind 6 statement; so its facts are true whatever these
+-- do.
 script-no-eval : (d : Asked) (o : Origin) (w : ℕ) (hs : List (Given ℕ)) → makes d script (record { origin = o; hand = record { value = w; beside = bareEval } ∷ hs }) ≡ false
 unfolding made
 script-no-eval choice o w hs = refl

@@ -59,7 +59,7 @@ throughBy a ofOther hs = false
 abbrev pub through : {Value : Type 0} → ℕ → Step Value → Bool
 through a x = throughBy a (x .origin) (x .hand)
 
--- A node's step. Those of declarators and of kind 6 statements "may also bind names"; of what they set nothing is said.
+-- A node's step. Those of declarators and of kind 6 statements "may also bind names"; no fact limits what they write.
 unfoldable pub isOfNode : Origin → Bool
 isOfNode (ofNode kind label flags role) = true
 isOfNode (ofDeclarator k name) = false
@@ -114,7 +114,7 @@ module _ {Value Rest : Type 0} (names : List NameFacts) (m : Meaning Value Rest)
       → run names m (φ .initializer) value s ≡ gave x s′
       → TargetsSame (φ .into) (φ .name) s s′
 
--- what `this` gives, of a node with this label and these flags
+-- the step of `this`, of a node with this label and these flags
 abbrev pub thisStep : {Value : Type 0} → ℕ → ℕ → Step Value
 thisStep label flags = record { origin = ofNode 5 label flags value; hand = [] }
 

@@ -1,5 +1,6 @@
 -- The run of a file (document 01, "The run, from ECMA-262"), over any values and any rest of the store; the four shapes; the
--- facts that are true of a meaning; demand 3. Clause numbers are those of ECMA-262's 15th edition (2024).
+-- steps and choices that a file can make; the facts that are true of a meaning; demand 3. Clause numbers are those of
+-- ECMA-262's 15th edition (2024).
 pub mod Store
 pub mod Hand
 pub mod Step
