@@ -63,11 +63,11 @@ typedef struct {
  * Threads: no global or static state, no allocation, no system call; any number of threads may fold
  * at the same time. Of the C library it asks for memcpy and memset.
  *
- * Stack: 14 KB for a small script and 76 KB for one of a few hundred nodes; where they are refused, 8
- * and 70 KB. The search recurses at most once for each level of a tree, and through most levels not at
- * all: the deepest trees that a file can hold (3,000 nodes) take 1.3 MB at the most that was seen. 2 MB
- * below the call are enough. The size is measured, not proved; the compiled code was seen to touch each
- * page of a frame in turn, so that a stack which is too small ends in the guard page.
+ * Stack: 16 KB for a small script and 80 KB for one of a few hundred nodes; where they are refused, 10
+ * and 72 KB. The search recurses for each level of a tree: the deepest trees that a file can hold (3,000
+ * nodes) take 0.95 MB at the most that was seen. 2 MB below the call are enough. The size is measured,
+ * not proved; the compiled code was seen to touch each page of a frame in turn, so that a stack which is
+ * too small ends in the guard page.
  */
 WsfAnswer wsf_fold(const uint8_t *file, size_t file_length, uint8_t *output, size_t output_length);
 

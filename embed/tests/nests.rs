@@ -11,9 +11,8 @@ type Level = &'static [(u8, u8)];
 
 /// One node a level: await, yield, import, unary, static and private member, callee, callee of new,
 /// private in, array, template, tag. Then the right side of a binary and of a logical operator, the
-/// second branch, the value of an assignment, the last of a sequence, an argument. Last, by calls of
-/// the search for each level: the value of a computed member's assignment, and an array behind a
-/// `yield`, which takes the most stack.
+/// second branch, the value of an assignment, the last of a sequence, an argument, the value of a
+/// computed member's assignment, and an array behind a `yield`.
 const LEVELS: [Level; 20] = [
     &[(6, 1)],
     &[(7, 1)],

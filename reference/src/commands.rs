@@ -2,4 +2,5 @@
 
 pub mod batch;
 pub mod check;
+pub mod program;
 pub mod write;

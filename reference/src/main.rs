@@ -7,6 +7,7 @@ use std::process::ExitCode;
 use reference::command_line::exit_code;
 use reference::commands::batch::{FAMILIES, batch};
 use reference::commands::check::{FULL, SHORT, check_all};
+use reference::commands::program::compare_program;
 use reference::commands::write::write_all;
 use reference::{answers, fold, foldlist, origin};
 
@@ -24,6 +25,7 @@ fn run(arguments: &[&str]) -> Result<(), String> {
             print!("{}", foldlist::foldlist(&standard_input()?));
             Ok(())
         }
+        ["compare-foldlist", program] => compare_program(Path::new(program)),
         ["fold", room] => fold_input(room),
         ["replay"] => replay(&standard_input()?),
         ["batch", family, ref numbers @ ..] => run_batch(family, numbers),
@@ -36,6 +38,7 @@ reference check [--short] DIRECTORY   check everything; the directory is that of
 reference write DIRECTORY             write the scripts and the kept answers anew
 reference origin CRATE                compare the carried functions with the unpacked crate
 reference foldlist < FILE             print the lines of foldlist
+reference compare-foldlist PROGRAM    run the program on files and compare its lines
 reference fold ROOM < FILE > RESULT   fold one file
 reference replay < ANSWERS            compare answers with the fold's
 reference batch FAMILY > ANSWERS      write the answers of a family of files, which is one of

@@ -24,8 +24,7 @@ use Rattle.walk.specs.Context.{Context}
 use Rattle.walk.specs.Shape.{is, shape, cleared}
 use Rattle.walk.specs.Substitute.{Answer, replaced, stopped, passed, Plan, all, first, nothing, value, test, branches, tag, next, at, preserveIndirectAccess, asTag, inOrder, inBranches, byPlan, ofNode, isSpecificId, plan, substituteInExpression, substituteInChildren}
 use Rattle.plans.specs.Search.{bareNames, allBareNames}
-use Rattle.plans.proofs.Behind.{all-bare}
-use Rattle.links.proofs.Searching.{bare-node}
+use Rattle.plans.proofs.BareNames.{all-bare, bare-node}
 
 -- a node that is no name, or has no children, over trees whose names have none
 pub node-bare : (n : Node) (kids : Trees) → (not (is 4 n) || eqb (count kids) 0) ≡ true → allBareNames kids ≡ true → bareNames (node n kids) ≡ true

@@ -30,17 +30,14 @@ pub fn pass_row(nodes: &[u8], at: NodeId, many: usize) -> Passed
     requires { ⌜ RowStands (now nodes) (at .0) many ⌝ }
     ensures { λ r. ⌜ Passes (now (nodes .entry)) (at .0) many (r .next .0) (r .effect) ⌝ }
 {
-    let mut next = at.0;
+    let mut next = at;
     let mut pending = many;
     let mut effect = false;
     while 0 < pending {
-        let n = work_node(nodes, NodeId(next));
+        let n = work_node(nodes, next);
         effect = effect | has_effect(n);
         pending = pending - 1 + size(n.children);
-        next += 1;
+        next = NodeId(next.0 + 1);
     }
-    Passed {
-        next: NodeId(next),
-        effect,
-    }
+    Passed { next, effect }
 }

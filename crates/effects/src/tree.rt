@@ -15,15 +15,15 @@ pub fn may_have_side_effects(nodes: &[u8], at: NodeId) -> bool
     requires { ⌜ Stands (now nodes) (at .0) ⌝ }
     ensures { λ r. ⌜ ((pre : List ℕ) (t : Tree) (rest : List ℕ) → TreeAt (now (nodes .entry)) (at .0) t pre rest → r ≡ mayHaveSideEffects t) ⌝ }
 {
-    let mut next = at.0;
+    let mut next = at;
     let mut pending = 1;
     while 0 < pending {
-        let n = work_node(nodes, NodeId(next));
+        let n = work_node(nodes, next);
         if has_effect(n) {
             return true;
         }
         pending = pending - 1 + size(n.children);
-        next += 1;
+        next = NodeId(next.0 + 1);
     }
     false
 }

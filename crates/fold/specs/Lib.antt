@@ -1,2 +1,3 @@
--- What the public call returns and writes.
+-- What the public call returns and writes, and what the fold under it comes to.
 pub mod Answer
+pub mod Outcome

@@ -27,7 +27,16 @@ use Rattle.folding.specs.State.{Holds, RecordRow, Coming}
 use Rattle.folding.specs.Folds.{Taking}
 
 abbrev pub atStart : Progress
-atStart = record { start = 0; used = 0; many = 0; count = 0; folds = 0; node = 0; declarator = 0 }
+atStart = record {
+  tree = record { 0 = 0 };
+  «nodes_used» = 0;
+  «declarators_kept» = 0;
+  «statements_kept» = 0;
+  folds = 0;
+  looks = 0;
+  «nodes_read» = 0;
+  «declarators_read» = 0;
+}
 
 -- all the records of a part
 row-all : {A : Type 0} (readAt : List ℕ → ℕ → A) (file : List ℕ) (from n : ℕ) (xs : List A) → xs ≡ recordsFrom (readAt file) 4 n from → length xs ≡ n → from + 4 * n ≤ length file
@@ -64,18 +73,18 @@ module _ (file : List ℕ) (room : ℕ) (e : refusal file room ≡ 0) where
   a = accepted file room e
 
   -- row 3
-  few-declarators : h .declarators ≤ 500
+  limits : (h .declarators ≤ 500) × (h .nodes + 2 * h .declarators ≤ 3000)
   unfolding outsideLimits
-  few-declarators =
+  limits =
       let g = not-false (countsFit h && optionsKnown h && headerScopes h && eqb (h .last) 0) (a .limits) in
       let x₁ = both (countsFit h) (optionsKnown h) (both (countsFit h && optionsKnown h) (headerScopes h) (both (countsFit h && optionsKnown h && headerScopes h) (eqb (h .last) 0) g .0) .0) .0 in
       let c₁ = leb (h .names) maxNames && leb minScopes (h .scopes) && leb (h .scopes) maxScopes && leb (h .frames) maxFrames in
       let c₂ = leb (h .declarators) maxDeclarators in
       let c₃ = leb minStatements (h .statements) in
       let c₄ = leb (h .statements) maxStatements in
-      let x₂ = both (c₁ && c₂ && c₃ && c₄) (leb (h .nodes + 2 * h .declarators) maxNodes) x₁ .0 in
+      let (x₂, x₄) = both (c₁ && c₂ && c₃ && c₄) (leb (h .nodes + 2 * h .declarators) maxNodes) x₁ in
       let x₃ = both (c₁ && c₂ && c₃) c₄ x₂ .0 in
-      leb-true (h .declarators) 500 (both c₁ c₂ (both (c₁ && c₂) c₃ x₃ .0) .1)
+      (leb-true (h .declarators) 500 (both c₁ c₂ (both (c₁ && c₂) c₃ x₃ .0) .1), leb-true (h .nodes + 2 * h .declarators) 3000 x₄)
 
   nodes-are : sizes (allTrees ss) ≡ h .nodes
   unfolding headerFor
@@ -96,7 +105,7 @@ module _ (file : List ℕ) (room : ℕ) (e : refusal file room ≡ 0) where
   coming-all = record {
     trees = all-trees (allTrees ss) (sym (read-nodes file room a)) (omega (arith, has-length a));
     records = row-all declaratorAt file (declaratorsStart h) (h .declarators) (declaratorRecords (allDeclarators ss)) (read-declarators file room a) declared-length (omega (arith, has-length a));
-    few = omega (arith, declared-length, few-declarators);
+    few = omega (arith, declared-length, limits);
     names = accepted-bare file room e;
   }
 
@@ -104,7 +113,7 @@ module _ (file : List ℕ) (room : ℕ) (e : refusal file room ≡ 0) where
   taking-all nodes records starts statements = record {
     holds = holds-none nodes records starts statements;
     comes = coming-all;
-    room = record { weight = omega (arith, nodes-are, declared-length); declared = omega (arith, declared-length); stated = omega (arith, statements-are) };
+    room = record { weight = omega (arith, nodes-are, declared-length); declared = omega (arith, declared-length); stated = omega (arith, statements-are); looked = omega (arith, nodes-are); few = omega (arith, limits) };
   }
 
   pub statements-coming : RecordRow statementAt file (statementsStart h) 0 (statementRecords ss)

@@ -18,10 +18,12 @@ use Rattle.statements.specs.Declarators.{isUnsearched, isUsing}
 use Rattle.statements.specs.Statements.{Kept, inFileOrder, substituteInStatement, inInitializer, inFirstDeclarator, foldStatement}
 use Rattle.folding.specs.declared.progress.Progress.{Progress}
 use Rattle.folding.specs.Pushed.{StatementPushed, statementPast}
+use Rattle.folding.specs.Added.{Adds}
 use Rattle.folding.specs.State.{State}
 use Rattle.folding.specs.Next.{CanTakeNext, SearchedFromStatements}
 use Rattle.folding.specs.Declarators.{CanTakeFirst, TakenFirst, laterDeclarators, CanTakeAll, TakenAll}
 use Rattle.folding.specs.Folds.{Taking, CanFold, Folds}
+use Rattle.folding.proofs.Adding.{adds-none, adds-as, adds-then}
 use Rattle.folding.proofs.Pushes.{becomes-expression, becomes-other, becomes-declaration, statement-state}
 use Rattle.folding.proofs.Definitions.{handle-variable-declaration, fold-empty, handle-expression-statement, fold-other}
 
@@ -87,22 +89,22 @@ fold-kind file h nodes records starts statements s p (ks, st, ss, rest, before, 
 -- The trees and declarators of a declaration are the next.
 module _ {file : List ℕ} {h : Header} {nodes records starts statements : List ℕ} {p : Progress} {ks : List Kept} {rest : List ℕ} {before : List NodeRecord} (kind : DeclarationKind) (ds : List Declarator) (ss : List Statement) where
   declaration-state : Taking file h nodes records starts statements p ks (declaration kind ds ∷ ss) rest before
-      → State file h nodes records starts statements (p .many) p ks [] bare (initializerTrees ds (allTrees ss)) (declaratorRecords ds ++ declaratorRecords (allDeclarators ss)) (suc (length ss)) rest before
+      → State file h nodes records starts statements (p .«declarators_kept») p ks [] bare (initializerTrees ds (allTrees ss)) (declaratorRecords ds ++ declaratorRecords (allDeclarators ss)) (suc (length ss)) rest before
   unfolding allTrees statementTrees allDeclarators declaratorsIn
   declaration-state a =
-      subst (λ (rs : List DeclaratorRecord). State file h nodes records starts statements (p .many) p ks [] bare (initializerTrees ds (allTrees ss)) rs (suc (length ss)) rest before)
+      subst (λ (rs : List DeclaratorRecord). State file h nodes records starts statements (p .«declarators_kept») p ks [] bare (initializerTrees ds (allTrees ss)) rs (suc (length ss)) rest before)
       (declaratorRecords-append ds (allDeclarators ss)) a
 
 -- so is that of an expression
 expression-state : {file : List ℕ} {h : Header} {nodes records starts statements : List ℕ} {p : Progress} {ks : List Kept} {rest : List ℕ} {before : List NodeRecord} (t : Tree) (ss : List Statement)
     → Taking file h nodes records starts statements p ks (expression t ∷ ss) rest before
-    → State file h nodes records starts statements (p .many) p ks [] bare (more t (allTrees ss)) (declaratorRecords (allDeclarators ss)) (suc (length ss)) rest before
+    → State file h nodes records starts statements (p .«declarators_kept») p ks [] bare (more t (allTrees ss)) (declaratorRecords (allDeclarators ss)) (suc (length ss)) rest before
 unfolding allTrees statementTrees allDeclarators declaratorsIn
 expression-state t ss a = a
 
 other-state : {file : List ℕ} {h : Header} {nodes records starts statements : List ℕ} {p : Progress} {ks : List Kept} {rest : List ℕ} {before : List NodeRecord} (ss : List Statement)
     → Taking file h nodes records starts statements p ks (other ∷ ss) rest before
-    → State file h nodes records starts statements (p .many) p ks [] bare (allTrees ss) (declaratorRecords (allDeclarators ss)) (suc (length ss)) rest before
+    → State file h nodes records starts statements (p .«declarators_kept») p ks [] bare (allTrees ss) (declaratorRecords (allDeclarators ss)) (suc (length ss)) rest before
 unfolding allTrees statementTrees allDeclarators declaratorsIn
 other-state ss a = a
 
@@ -117,33 +119,33 @@ first-length ctx ks d = by (d .initializer)
 
 module _ (ctx : Context) (file : List ℕ) (h : Header) (nodes records starts statements : List ℕ) (s : StatementRecord) (p : Progress) where
   -- An empty declaration is pushed.
-  pub empty-folds : (statements′ : List ℕ) (r : Progress) → s .kind < 5 → s .declarators ≡ 0 → StatementPushed statements statements′ (p .count) s → r ≡ statementPast p
-      → Folds ctx file h nodes nodes records records starts starts statements statements′ s p r
+  pub empty-folds : (statements′ folded : List ℕ) (r : Progress) → s .kind < 5 → s .declarators ≡ 0 → StatementPushed statements statements′ (p .«statements_kept») s → r ≡ statementPast p
+      → Folds ctx file h nodes nodes records records starts starts statements statements′ folded folded s p r
   unfolding initializerTrees declaratorRecords
-  empty-folds statements′ r k n w er ks st ss rest before a e number = by st (is-empty s st e k n) a
+  empty-folds statements′ folded r k n w er ks st ss rest before a e number = by st (is-empty s st e k n) a
     where
       by : (st : Statement) → Empty s st → Taking file h nodes records starts statements p ks (st ∷ ss) rest before
           → (rest′ : List ℕ) × (before′ : List NodeRecord)
           × Taking file h nodes records starts statements′ r (foldStatement ctx number ks st .result) ss rest′ before′
-          × (r .folds ≡ p .folds + length (foldStatement ctx number ks st .trace))
+          × Adds folded folded p r (foldStatement ctx number ks st)
       by _ (empty kind e) a =
           let (x, y) = fold-empty ctx ks number kind in
           let b = statement-state number (declaration kind (reverse [])) (becomes-declaration kind []) (declaration-state kind [] ss a) w e in
-          (rest, before, rw (er, x) b, rw (er, y) (omega arith))
+          (rest, before, rw (er, x) b, adds-none (foldStatement ctx number ks (declaration kind [])) (ap (λ (x : Progress). x .folds) er) (ap (λ (x : Progress). x .looks) er) (y .traces) (y .looks))
 
   -- Any other statement is pushed.
-  pub other-folds : (statements′ : List ℕ) (r : Progress) → s .kind ≡ 6 → StatementPushed statements statements′ (p .count) s → r ≡ statementPast p
-      → Folds ctx file h nodes nodes records records starts starts statements statements′ s p r
-  other-folds statements′ r k w er ks st ss rest before a e number = by st (is-the-other s st e k) a e
+  pub other-folds : (statements′ folded : List ℕ) (r : Progress) → s .kind ≡ 6 → StatementPushed statements statements′ (p .«statements_kept») s → r ≡ statementPast p
+      → Folds ctx file h nodes nodes records records starts starts statements statements′ folded folded s p r
+  other-folds statements′ folded r k w er ks st ss rest before a e number = by st (is-the-other s st e k) a e
     where
       by : (st : Statement) → Other st → Taking file h nodes records starts statements p ks (st ∷ ss) rest before → s ≡ statementRecord st
           → (rest′ : List ℕ) × (before′ : List NodeRecord)
           × Taking file h nodes records starts statements′ r (foldStatement ctx number ks st .result) ss rest′ before′
-          × (r .folds ≡ p .folds + length (foldStatement ctx number ks st .trace))
+          × Adds folded folded p r (foldStatement ctx number ks st)
       by _ is-other a e =
           let (x, y) = fold-other ctx ks number in
           let b = statement-state number other becomes-other (other-state ss a) w e in
-          (rest, before, rw (er, x) b, rw (er, y) (omega arith))
+          (rest, before, rw (er, x) b, adds-none (foldStatement ctx number ks other) (ap (λ (x : Progress). x .folds) er) (ap (λ (x : Progress). x .looks) er) (y .traces) (y .looks))
 
   -- An expression: its tree can be taken, then it can be pushed.
   module _ (k : s .kind ≡ 5) where
@@ -153,30 +155,30 @@ module _ (ctx : Context) (file : List ℕ) (h : Header) (nodes records starts st
         by : (st : Statement) → Expressed st → Taking file h nodes records starts statements p ks (st ∷ ss) rest before → CanTakeNext file h nodes records starts statements p
         by _ (expressed t) a = (ks, t, allTrees ss, declaratorRecords (allDeclarators ss), suc (length ss), rest, before, expression-state t ss a)
 
-    module _ (nodes′ statements₁ : List ℕ) (l : Progress) (w : SearchedFromStatements ctx file h nodes nodes′ records starts statements statements₁ p l) where
-      pub expression-room : CanFold file h nodes records starts statements s p → l .count + 1 ≤ h .statements
+    module _ (nodes′ statements₁ folded folded′ : List ℕ) (l : Progress) (w : SearchedFromStatements ctx file h nodes nodes′ records starts statements statements₁ folded folded′ p l) where
+      pub expression-room : CanFold file h nodes records starts statements s p → l .«statements_kept» + 1 ≤ h .statements
       expression-room (ks, st, ss, rest, before, a, e) = by st (is-expressed s st e k) a
         where
-          by : (st : Statement) → Expressed st → Taking file h nodes records starts statements p ks (st ∷ ss) rest before → l .count + 1 ≤ h .statements
+          by : (st : Statement) → Expressed st → Taking file h nodes records starts statements p ks (st ∷ ss) rest before → l .«statements_kept» + 1 ≤ h .statements
           by _ (expressed t) a =
               let (rest′, before′, s′, f) = w ks t (allTrees ss) (declaratorRecords (allDeclarators ss)) (suc (length ss)) rest before (expression-state t ss a) in
               omega (arith, s′ .room .stated)
 
-      pub expression-folds : (statements′ : List ℕ) (r : Progress) → StatementPushed statements₁ statements′ (l .count) s → r ≡ statementPast l
-          → Folds ctx file h nodes nodes′ records records starts starts statements statements′ s p r
+      pub expression-folds : (statements′ : List ℕ) (r : Progress) → StatementPushed statements₁ statements′ (l .«statements_kept») s → r ≡ statementPast l
+          → Folds ctx file h nodes nodes′ records records starts starts statements statements′ folded folded′ s p r
       unfolding statementRecord statementNumber declaratorsIn
       expression-folds statements′ r pushed er ks st ss rest before a e number = by st (is-expressed s st e k) a e
         where
           by : (st : Statement) → Expressed st → Taking file h nodes records starts statements p ks (st ∷ ss) rest before → s ≡ statementRecord st
               → (rest′ : List ℕ) × (before′ : List NodeRecord)
               × Taking file h nodes′ records starts statements′ r (foldStatement ctx number ks st .result) ss rest′ before′
-              × (r .folds ≡ p .folds + length (foldStatement ctx number ks st .trace))
+              × Adds folded folded′ p r (foldStatement ctx number ks st)
           by _ (expressed t) a e =
               let (rest′, before′, s′, f) = w ks t (allTrees ss) (declaratorRecords (allDeclarators ss)) (suc (length ss)) rest before (expression-state t ss a) in
               let t′ = substituteInStatement ctx ks t .result .target in
               let (x, y) = handle-expression-statement ctx ks number t in
               let b = statement-state number (expression t′) (becomes-expression t′) s′ pushed e in
-              (rest′, before′, rw (er, x) b, rw (er, y) f)
+              (rest′, before′, rw (er, x) b, adds-as (foldStatement ctx number ks (expression t)) (ap (λ (x : Progress). x .folds) er) (ap (λ (x : Progress). x .looks) er) (y .traces) (y .looks) f)
 
   -- A declaration with declarators: the first can be taken, then the others, then it can be pushed.
   module _ (k : s .kind < 5) (number₀ : ℕ) (en₀ : number₀ ≡ s .declarators) (n : number₀ ≡ 0 → ⊥) where
@@ -188,67 +190,67 @@ module _ (ctx : Context) (file : List ℕ) (h : Header) (nodes records starts st
         by _ (declared kind d ds ek en) a =
             (ks, d, initializerTrees ds (allTrees ss), declaratorRecords ds ++ declaratorRecords (allDeclarators ss), suc (length ss), rest, before, declaration-state kind (d ∷ ds) ss a)
 
-    module _ (nodes₁ records₁ starts₁ statements₁ : List ℕ) (f : Progress) (first : TakenFirst ctx file h nodes nodes₁ records records₁ starts starts₁ statements statements₁ p f) where
+    module _ (nodes₁ records₁ starts₁ statements₁ folded folded₁ : List ℕ) (f : Progress) (first : TakenFirst ctx file h nodes nodes₁ records records₁ starts starts₁ statements statements₁ folded folded₁ p f) where
       first-state : (kind : DeclarationKind) (d : Declarator) (ds : List Declarator) (ks : List Kept) (ss : List Statement) (rest : List ℕ) (before : List NodeRecord)
           → Taking file h nodes records starts statements p ks (declaration kind (d ∷ ds) ∷ ss) rest before
           → (rest′ : List ℕ) × (before′ : List NodeRecord)
-          × State file h nodes₁ records₁ starts₁ statements₁ (f .many - 1) f (inFirstDeclarator ctx ks (d ∷ []) .result .left) (inFirstDeclarator ctx ks (d ∷ []) .result .target) bare (initializerTrees ds (allTrees ss)) (declaratorRecords ds ++ declaratorRecords (allDeclarators ss)) (suc (length ss)) rest′ before′
-          × (f .folds ≡ p .folds + length (inFirstDeclarator ctx ks (d ∷ []) .trace))
+          × State file h nodes₁ records₁ starts₁ statements₁ (f .«declarators_kept» - 1) f (inFirstDeclarator ctx ks (d ∷ []) .result .left) (inFirstDeclarator ctx ks (d ∷ []) .result .target) bare (initializerTrees ds (allTrees ss)) (declaratorRecords ds ++ declaratorRecords (allDeclarators ss)) (suc (length ss)) rest′ before′
+          × Adds folded folded₁ p f (inFirstDeclarator ctx ks (d ∷ []))
       unfolding initializerTrees declaratorRecords
       first-state kind d ds ks ss rest before a =
           first ks d (initializerTrees ds (allTrees ss)) (declaratorRecords ds ++ declaratorRecords (allDeclarators ss)) (suc (length ss)) rest before (declaration-state kind (d ∷ ds) ss a)
 
-      pub declaration-later : CanFold file h nodes records starts statements s p → (1 ≤ f .many) × CanTakeAll file h nodes₁ records₁ starts₁ (f .many - 1) (number₀ - 1) f
+      pub declaration-later : CanFold file h nodes records starts statements s p → (1 ≤ f .«declarators_kept») × CanTakeAll file h nodes₁ records₁ starts₁ (f .«declarators_kept» - 1) (number₀ - 1) f
       declaration-later (ks, st, ss, rest, before, a, e) = by st (is-declared s st e k (λ q. n (en₀ ∙ q))) a
         where
           by : (st : Statement) → Declared s st → Taking file h nodes records starts statements p ks (st ∷ ss) rest before
-              → (1 ≤ f .many) × CanTakeAll file h nodes₁ records₁ starts₁ (f .many - 1) (number₀ - 1) f
+              → (1 ≤ f .«declarators_kept») × CanTakeAll file h nodes₁ records₁ starts₁ (f .«declarators_kept» - 1) (number₀ - 1) f
           by _ (declared kind d ds ek en) a =
               let (rest′, before′, s′, m) = first-state kind d ds ks ss rest before a in
               let w = inFirstDeclarator ctx ks (d ∷ []) .result in
               (omega (arith, s′ .holds .counted, first-length ctx ks d), (statements₁, w .left, w .target, ds, allTrees ss, declaratorRecords (allDeclarators ss), suc (length ss), rest′, before′, s′, omega (arith, en)))
 
-      module _ (searched : Bool) (nodes₂ records₂ starts₂ : List ℕ) (l : Progress)
-          (later : TakenAll ctx searched file h nodes₁ nodes₂ records₁ records₂ starts₁ starts₂ (f .many - 1) (number₀ - 1) f l) where
+      module _ (searched : Bool) (nodes₂ records₂ starts₂ folded₂ : List ℕ) (l : Progress)
+          (later : TakenAll ctx searched file h nodes₁ nodes₂ records₁ records₂ starts₁ starts₂ folded₁ folded₂ (f .«declarators_kept» - 1) (number₀ - 1) f l) where
         later-state : (kind : DeclarationKind) (d : Declarator) (ds : List Declarator) (ks : List Kept) (ss : List Statement) (rest : List ℕ) (before : List NodeRecord)
             → s .declarators ≡ suc (length ds) → Taking file h nodes records starts statements p ks (declaration kind (d ∷ ds) ∷ ss) rest before
             → let w = inFirstDeclarator ctx ks (d ∷ []) in
             let v = laterDeclarators ctx (inFileOrder (w .result .left)) kind searched (w .result .target) ds in
             (rest′ : List ℕ) × (before′ : List NodeRecord)
-            × State file h nodes₂ records₂ starts₂ statements₁ (f .many - 1) l (w .result .left) (v .result) bare (allTrees ss) (declaratorRecords (allDeclarators ss)) (suc (length ss)) rest′ before′
-            × (l .folds ≡ p .folds + (length (w .trace) + length (v .trace)))
+            × State file h nodes₂ records₂ starts₂ statements₁ (f .«declarators_kept» - 1) l (w .result .left) (v .result) bare (allTrees ss) (declaratorRecords (allDeclarators ss)) (suc (length ss)) rest′ before′
+            × Adds folded folded₁ p f w × Adds folded₁ folded₂ f l v
         later-state kind d ds ks ss rest before en a =
             let (rest₁, before₁, s₁, m₁) = first-state kind d ds ks ss rest before a in
             let w = inFirstDeclarator ctx ks (d ∷ []) in
             let v = laterDeclarators ctx (inFileOrder (w .result .left)) kind searched (w .result .target) ds in
             let (rest₂, before₂, s₂, m₂) = later statements₁ (w .result .left) (w .result .target) ds (allTrees ss) (declaratorRecords (allDeclarators ss)) (suc (length ss)) rest₁ before₁ s₁ (omega (arith, en)) (inFileOrder (w .result .left)) kind in
-            (rest₂, before₂, s₂, omega (arith, m₁, m₂))
+            (rest₂, before₂, s₂, m₁, m₂)
 
-        pub declaration-room : CanFold file h nodes records starts statements s p → (f .many - 1 ≤ l .many) × (l .many ≤ h .declarators) × (l .count + 1 ≤ h .statements)
+        pub declaration-room : CanFold file h nodes records starts statements s p → (f .«declarators_kept» - 1 ≤ l .«declarators_kept») × (l .«declarators_kept» ≤ h .declarators) × (l .«statements_kept» + 1 ≤ h .statements)
         declaration-room (ks, st, ss, rest, before, a, e) = by st (is-declared s st e k (λ q. n (en₀ ∙ q))) a
           where
             by : (st : Statement) → Declared s st → Taking file h nodes records starts statements p ks (st ∷ ss) rest before
-                → (f .many - 1 ≤ l .many) × (l .many ≤ h .declarators) × (l .count + 1 ≤ h .statements)
+                → (f .«declarators_kept» - 1 ≤ l .«declarators_kept») × (l .«declarators_kept» ≤ h .declarators) × (l .«statements_kept» + 1 ≤ h .statements)
             by _ (declared kind d ds ek en) a =
-                let (rest′, before′, s′, m) = later-state kind d ds ks ss rest before en a in
+                let (rest′, before′, s′, m₁, m₂) = later-state kind d ds ks ss rest before en a in
                 (omega (arith, s′ .holds .counted), omega (arith, s′ .room .declared), omega (arith, s′ .room .stated))
 
-        pub declaration-folds : searched ≡ not (isUnsearched ctx || isUsing (declarationKind (s .kind))) → (statements′ : List ℕ) (x : StatementRecord) (r : Progress) → x ≡ record { kind = s .kind; zero = 0; declarators = l .many - (f .many - 1) } → StatementPushed statements₁ statements′ (l .count) x → r ≡ statementPast l
-            → Folds ctx file h nodes nodes₂ records records₂ starts starts₂ statements statements′ s p r
+        pub declaration-folds : searched ≡ not (isUnsearched ctx || isUsing (declarationKind (s .kind))) → (statements′ : List ℕ) (x : StatementRecord) (r : Progress) → x ≡ record { kind = s .kind; zero = 0; declarators = l .«declarators_kept» - (f .«declarators_kept» - 1) } → StatementPushed statements₁ statements′ (l .«statements_kept») x → r ≡ statementPast l
+            → Folds ctx file h nodes nodes₂ records records₂ starts starts₂ statements statements′ folded folded₂ s p r
         unfolding statementRecord statementNumber declaratorsIn
         declaration-folds es statements′ x r ex pushed er ks st ss rest before a e number = by st (is-declared s st e k (λ q. n (en₀ ∙ q))) a
           where
             by : (st : Statement) → Declared s st → Taking file h nodes records starts statements p ks (st ∷ ss) rest before
                 → (rest′ : List ℕ) × (before′ : List NodeRecord)
                 × Taking file h nodes₂ records₂ starts₂ statements′ r (foldStatement ctx number ks st .result) ss rest′ before′
-                × (r .folds ≡ p .folds + length (foldStatement ctx number ks st .trace))
+                × Adds folded folded₂ p r (foldStatement ctx number ks st)
             by _ (declared kind d ds ek en) a =
-                let (rest′, before′, s′, m) = later-state kind d ds ks ss rest before en a in
+                let (rest′, before′, s′, m₁, m₂) = later-state kind d ds ks ss rest before en a in
                 let w = inFirstDeclarator ctx ks (d ∷ []) in
                 let v = laterDeclarators ctx (inFileOrder (w .result .left)) kind searched (w .result .target) ds in
-                let many : l .many - (f .many - 1) ≡ length (reverse (v .result)) = omega (arith, s′ .holds .counted, length-reverse (v .result)) in
+                let many : l .«declarators_kept» - (f .«declarators_kept» - 1) ≡ length (reverse (v .result)) = omega (arith, s′ .holds .counted, length-reverse (v .result)) in
                 let is : x ≡ statementRecord (declaration kind (reverse (v .result))) = ex ∙ (λ i. record { kind = ek i; zero = 0; declarators = many i }) in
                 let b = statement-state number (declaration kind (reverse (v .result))) (becomes-declaration kind (v .result)) s′ pushed is in
                 let same : searched ≡ not (isUnsearched ctx || isUsing kind) = es ∙ ap (λ (c : DeclarationKind). not (isUnsearched ctx || isUsing c)) (ap declarationKind ek ∙ kind-back kind) in
-                let (u, y) = handle-variable-declaration ctx ks number kind d ds searched same in
-                (rest′, before′, rw (er, u) b, rw (er, y) m)
+                let (u, y, z) = handle-variable-declaration ctx ks number kind d ds searched same in
+                (rest′, before′, rw (er, u) b, adds-as (foldStatement ctx number ks (declaration kind (d ∷ ds))) (ap (λ (x : Progress). x .folds) er) (ap (λ (x : Progress). x .looks) er) refl refl (adds-then (foldStatement ctx number ks (declaration kind (d ∷ ds))) y z m₁ m₂))

@@ -40,7 +40,7 @@ whole-length ks ds = omega (arith, kept-length ks (laidDeclarators ds []), decla
 module _ {file : List ℕ} {h : Header} {nodes records starts statements : List ℕ} {low : ℕ} {p : Progress} {ks : List Kept} {ds : List Declarator} {t : Tree} {ts : Trees} {coming : List DeclaratorRecord} {left : ℕ} {rest : List ℕ} {before : List NodeRecord}
     (s : State file h nodes records starts statements low p ks ds bare (more t ts) coming left rest before) where
   -- the tree that is next
-  pub next-tree : FileTree file (nodesStart h) (p .node) t (h .nodes) before (preorders ts [])
+  pub next-tree : FileTree file (nodesStart h) (p .«nodes_read») t (h .nodes) before (preorders ts [])
   next-tree = first (s .comes .trees)
 
   pub has-tree : 16 * mostNodes h ≤ length nodes → HasTree file h nodes p
@@ -52,7 +52,7 @@ module _ {file : List ℕ} {h : Header} {nodes records starts statements : List 
     unfolding laidInitializer
     stood = s .holds .is ∙ whole-split ks ds rest
 
-    long : length (keptBytes ks ds) ≡ 16 * p .used
+    long : length (keptBytes ks ds) ≡ 16 * p .«nodes_used»
     unfolding nodesOf
     long = whole-length ks ds ∙ omega (arith, s .holds .starting, s .holds .ends)
 
@@ -88,5 +88,5 @@ module _ {file : List ℕ} {h : Header} {nodes records starts statements : List 
         (record {
           holds = holds-tree;
           comes = record { trees = beyond (c .trees); records = c .records; few = c .few; names = both (bareNames t) (allBareNames ts) (c .names) .1 };
-          room = record { weight = omega (arith, m .weight); declared = m .declared; stated = m .stated };
+          room = record { weight = omega (arith, m .weight); declared = m .declared; stated = m .stated; looked = omega (arith, m .looked); few = m .few };
         })

@@ -42,7 +42,7 @@ module _ {records records′ starts starts′ : List ℕ} {many start : ℕ} {x 
 -- A declarator is pushed with the tree that stood behind the others, if it has one.
 pushed-declarator : {nodes records records′ starts starts′ statements : List ℕ} {low : ℕ} {p : Progress} {ks : List Kept} {ds : List Declarator} {rest : List ℕ} {x : DeclaratorRecord} (d : Declarator)
     → Holds nodes records starts statements low p ks ds (d .initializer) rest
-    → DeclaratorPushed records records′ starts starts′ (p .many) (p .start) x → x ≡ recordFor d
+    → DeclaratorPushed records records′ starts starts′ (p .«declarators_kept») (p .tree .0) x → x ≡ recordFor d
     → Holds nodes records′ starts′ statements low (declaratorPast p) ks (d ∷ ds) bare rest
 unfolding Held laidDeclarators laidInitializer nodesIn nodesOf bareDeclarators bareInitializer
 pushed-declarator {records′ = records′} {starts′ = starts′} {statements} {low} {ks = ks} {ds} d h w e =
@@ -81,7 +81,7 @@ module _ {A : Type 0} {readAt : List ℕ → ℕ → A} {file : List ℕ} {from 
 module _ {file : List ℕ} {h : Header} {nodes records starts statements : List ℕ} {low : ℕ} {p : Progress} {ks : List Kept} {ds : List Declarator} {ts : Trees} {coming : List DeclaratorRecord} {left : ℕ} {rest : List ℕ} {before : List NodeRecord} where
   -- the next declarator of the file is pushed
   pub declarator-state : {records′ starts′ : List ℕ} {x : DeclaratorRecord} (d : Declarator) → State file h nodes records starts statements low p ks ds (d .initializer) ts (x ∷ coming) left rest before
-      → DeclaratorPushed records records′ starts starts′ (p .many) (p .start) x → x ≡ recordFor d
+      → DeclaratorPushed records records′ starts starts′ (p .«declarators_kept») (p .tree .0) x → x ≡ recordFor d
       → State file h nodes records′ starts′ statements low (declaratorPast p) ks (d ∷ ds) bare ts coming left rest before
   declarator-state d s w e =
       let c = s .comes in
@@ -89,7 +89,7 @@ module _ {file : List ℕ} {h : Header} {nodes records starts statements : List 
       record {
         holds = pushed-declarator d (s .holds) w e;
         comes = record { trees = c .trees; records = next-records (c .records); few = omega (arith, c .few); names = c .names };
-        room = record { weight = omega (arith, r .weight); declared = omega (arith, r .declared); stated = r .stated };
+        room = record { weight = omega (arith, r .weight); declared = omega (arith, r .declared); stated = r .stated; looked = r .looked; few = r .few };
       }
 
 -- What stands behind the statements that are kept, as a statement.
@@ -120,8 +120,8 @@ becomes-declaration kind ds =
 
 pushed-statement : {nodes records starts statements statements′ : List ℕ} {low : ℕ} {p : Progress} {ks : List Kept} {ds : List Declarator} {i : Initializer} {rest : List ℕ} {x : StatementRecord} (number : ℕ) (s : Statement)
     → Becomes s ds i → Holds nodes records starts statements low p ks ds i rest
-    → StatementPushed statements statements′ (p .count) x → x ≡ statementRecord s
-    → Holds nodes records starts statements′ (p .many) (statementPast p) (record { number = number; statement = s } ∷ ks) [] bare rest
+    → StatementPushed statements statements′ (p .«statements_kept») x → x ≡ statementRecord s
+    → Holds nodes records starts statements′ (p .«declarators_kept») (statementPast p) (record { number = number; statement = s } ∷ ks) [] bare rest
 unfolding laidKept laidDeclarators laidInitializer nodesKept nodesIn nodesOf declaratorsKept bareKept bareDeclarators bareInitializer HeldKept Held
 pushed-statement {records = records} {starts} {statements} {statements′} {low} {p} {ks} {ds} {i} {rest} number s b h w e =
     let many = h .counted in
@@ -147,13 +147,13 @@ pushed-statement {records = records} {starts} {statements} {statements′} {low}
 module _ {file : List ℕ} {h : Header} {nodes records starts statements : List ℕ} {low : ℕ} {p : Progress} {ks : List Kept} {ds : List Declarator} {i : Initializer} {ts : Trees} {coming : List DeclaratorRecord} {left : ℕ} {rest : List ℕ} {before : List NodeRecord} where
   pub statement-state : {statements′ : List ℕ} {x : StatementRecord} (number : ℕ) (s : Statement) → Becomes s ds i
       → State file h nodes records starts statements low p ks ds i ts coming (suc left) rest before
-      → StatementPushed statements statements′ (p .count) x → x ≡ statementRecord s
-      → State file h nodes records starts statements′ (p .many) (statementPast p) (record { number = number; statement = s } ∷ ks) [] bare ts coming left rest before
+      → StatementPushed statements statements′ (p .«statements_kept») x → x ≡ statementRecord s
+      → State file h nodes records starts statements′ (p .«declarators_kept») (statementPast p) (record { number = number; statement = s } ∷ ks) [] bare ts coming left rest before
   statement-state number s b a w e =
       let c = a .comes in
       let r = a .room in
       record {
         holds = pushed-statement number s b (a .holds) w e;
         comes = record { trees = c .trees; records = c .records; few = c .few; names = c .names };
-        room = record { weight = r .weight; declared = r .declared; stated = omega (arith, r .stated) };
+        room = record { weight = r .weight; declared = r .declared; stated = omega (arith, r .stated); looked = r .looked; few = r .few };
       }

@@ -1,9 +1,9 @@
 -- The statements of a file, one after the other. Assumes nothing.
 use mathlib.Core.Path.{_≡_, refl, sym, ap, subst, _∙_}
-use mathlib.Core.List.{List, [], _∷_, map}
-use Prim.Native.Nat.{ℕ, _+_, _*_, _≤_, _<_}
+use mathlib.Core.List.{List, [], _∷_, _++_, map, reverse}
+use Prim.Native.Nat.{ℕ, _+_, _-_, _*_, _≤_, _<_}
 use native.Mathlib.Omega.{arith}
-use lib.ListN.{length, drop, length-append}
+use lib.ListN.{length, set, take, drop, length-map}
 use Rattle.records.specs.Bytes.{Bytes}
 use Rattle.records.specs.Record.{headerOf, statementAt}
 use Rattle.records.specs.File.{Statement, read, statementRecords, statementsStart}
@@ -14,11 +14,15 @@ use Rattle.walk.specs.Context.{Context, contextOf}
 use Rattle.statements.specs.Trace.{Traced, pure, _>>=_}
 use Rattle.statements.specs.Statements.{Kept, statementOf, foldStatement, foldStatements}
 use Rattle.statements.specs.Fold.{foldFile, foldedFile, withStatements}
-use Rattle.search.specs.Kept.{laidInitializer, nodesOf, laidDeclarators, nodesIn}
+use Rattle.search.specs.Kept.{laidInitializer, nodesOf, laidDeclarators, nodesIn, foldedNames}
 use Rattle.search.specs.KeptStatements.{declaratorsKept}
 use Rattle.folding.specs.declared.progress.Progress.{Progress}
+use Rattle.folding.specs.Added.{Adds}
+use Rattle.folding.specs.Numbers.{Numbered}
 use Rattle.folding.specs.State.{Long, RecordRow}
 use Rattle.folding.specs.Folds.{Taking, CanFold, Folds, Accepted, FoldsAll}
+use Rattle.folding.proofs.Adding.{written-first, adds-none, adds-then}
+use Rattle.folding.proofs.Numbers.{number-written, numbers-are}
 use Rattle.folding.proofs.Pushes.{first-record, next-records}
 use Rattle.folding.proofs.Beginning.{atStart, taking-all, statements-coming, statements-are}
 use Rattle.folding.proofs.Result.{trees-laid, nodes-counted, declarators-counted, statements-counted, declarators-printed, statements-printed}
@@ -31,19 +35,21 @@ module _ (file : List ℕ) (h : Header) where
   whole = foldStatements (contextOf (read file)) 0 [] (read file .statements)
 
   -- The statements before number `i` are taken, and these are left, from which the same comes.
-  pub record Ordered (nodes records starts statements : List ℕ) (p : Progress) (i total : ℕ) (ks : List Kept) (ss : List Statement) (rest : List ℕ) (before : List NodeRecord) : Type 0 where
+  pub record Ordered (nodes records starts statements folded₀ folded kept : List ℕ) (p : Progress) (i total : ℕ) (ks : List Kept) (ss : List Statement) (rest : List ℕ) (before : List NodeRecord) : Type 0 where
     pub taking : Taking file h nodes records starts statements p ks ss rest before
     pub coming : RecordRow statementAt file (statementsStart h) i (statementRecords ss)
     pub many : i + length ss ≡ total
+    pub numbers : Numbered kept ks
     pub result-is : whole .result ≡ foldStatements ctx i ks ss .result
-    pub folded : length (whole .trace) ≡ p .folds + length (foldStatements ctx i ks ss .trace)
+    pub adds : {folded′ : List ℕ} {r : Progress} → Adds folded folded′ p r (foldStatements ctx i ks ss) → Adds folded₀ folded′ atStart r whole
 
-  abbrev pub SomeOrdered : List ℕ → List ℕ → List ℕ → List ℕ → Progress → ℕ → ℕ → Type 0
-  SomeOrdered nodes records starts statements p i total =
-      (ks : List Kept) × (ss : List Statement) × (rest : List ℕ) × (before : List NodeRecord) × Ordered nodes records starts statements p i total ks ss rest before
+  abbrev pub SomeOrdered : List ℕ → List ℕ → List ℕ → List ℕ → List ℕ → List ℕ → List ℕ → Progress → ℕ → ℕ → Type 0
+  SomeOrdered nodes records starts statements folded₀ folded kept p i total =
+      (ks : List Kept) × (ss : List Statement) × (rest : List ℕ) × (before : List NodeRecord) × Ordered nodes records starts statements folded₀ folded kept p i total ks ss rest before
 
-  pub ordered-begins : (nodes records starts statements : List ℕ) (total : ℕ) → Accepted file → h ≡ headerOf file → total ≡ h .statements → SomeOrdered nodes records starts statements atStart 0 total
-  ordered-begins nodes records starts statements total (room, e) eh et = (
+  pub ordered-begins : (nodes records starts statements folded kept : List ℕ) (total : ℕ) → Accepted file → h ≡ headerOf file → total ≡ h .statements → SomeOrdered nodes records starts statements folded folded kept atStart 0 total
+  unfolding Numbered
+  ordered-begins nodes records starts statements folded kept total (room, e) eh et = (
     [],
     read file .statements,
     nodes,
@@ -52,54 +58,59 @@ module _ (file : List ℕ) (h : Header) where
       taking = subst (λ (x : Header). Taking file x nodes records starts statements atStart [] (read file .statements) nodes []) (sym eh) (taking-all file room e nodes records starts statements);
       coming = subst (λ (x : Header). RecordRow statementAt file (statementsStart x) 0 (statementRecords (read file .statements))) (sym eh) (statements-coming file room e);
       many = omega (arith, statements-are file room e, et, ap (λ (x : Header). x .statements) eh);
+      numbers = tt;
       result-is = refl;
-      folded = omega arith;
+      adds = λ a. a;
     },
   )
 
-  module _ {nodes records starts statements : List ℕ} {p : Progress} {i total : ℕ} where
+  module _ {nodes records starts statements folded₀ folded kept : List ℕ} {p : Progress} {i total : ℕ} where
     -- there is one more
     module _ (l : i < total) where
-      pub ordered-inside : SomeOrdered nodes records starts statements p i total → statementsStart h + 4 * i + 4 ≤ length file
+      pub ordered-inside : SomeOrdered nodes records starts statements folded₀ folded kept p i total → statementsStart h + 4 * i + 4 ≤ length file
       unfolding statementRecords
       ordered-inside (ks, [], rest, before, o) = absurd (omega (arith, o .many))
       ordered-inside (ks, st ∷ ss, rest, before, o) = omega (arith, o .coming .inside)
 
-      pub can-fold : (s : StatementRecord) → s ≡ statementAt file (statementsStart h + 4 * i) → SomeOrdered nodes records starts statements p i total → CanFold file h nodes records starts statements s p
+      pub can-fold : (s : StatementRecord) → s ≡ statementAt file (statementsStart h + 4 * i) → SomeOrdered nodes records starts statements folded₀ folded kept p i total → CanFold file h nodes records starts statements s p
       unfolding statementRecords
       can-fold s es (ks, [], rest, before, o) = absurd (omega (arith, o .many))
       can-fold s es (ks, st ∷ ss, rest, before, o) = (ks, st, ss, rest, before, o .taking, es ∙ first-record (o .coming))
 
-      pub ordered-on : (nodes′ records′ starts′ statements′ : List ℕ) (s : StatementRecord) (r : Progress) → s ≡ statementAt file (statementsStart h + 4 * i)
-          → Folds ctx file h nodes nodes′ records records′ starts starts′ statements statements′ s p r
-          → SomeOrdered nodes records starts statements p i total → SomeOrdered nodes′ records′ starts′ statements′ r (i + 1) total
+      -- it is taken, and its number is written as the last of those that are kept
+      pub ordered-on : (nodes′ records′ starts′ statements′ folded′ : List ℕ) (s : StatementRecord) (r : Progress) → s ≡ statementAt file (statementsStart h + 4 * i)
+          → Folds ctx file h nodes nodes′ records records′ starts starts′ statements statements′ folded folded′ s p r → h .statements ≤ length kept
+          → SomeOrdered nodes records starts statements folded₀ folded kept p i total
+          → (0 < r .«statements_kept») × (r .«statements_kept» ≤ length kept) × SomeOrdered nodes′ records′ starts′ statements′ folded₀ folded′ (set kept (r .«statements_kept» - 1) i) r (i + 1) total
       unfolding statementRecords foldStatements _>>=_
-      ordered-on nodes′ records′ starts′ statements′ s r es w (ks, [], rest, before, o) = absurd (omega (arith, o .many))
-      ordered-on nodes′ records′ starts′ statements′ s r es w (ks, st ∷ ss, rest, before, o) =
+      ordered-on nodes′ records′ starts′ statements′ folded′ s r es w long (ks, [], rest, before, o) = absurd (omega (arith, o .many))
+      ordered-on nodes′ records′ starts′ statements′ folded′ s r es w long (ks, st ∷ ss, rest, before, o) =
           let v = foldStatement ctx i ks st in
-          let (rest′, before′, t, f) = w ks st ss rest before (o .taking) (es ∙ first-record (o .coming)) i in (
-            v .result,
-            ss,
-            rest′,
-            before′,
-            record {
-              taking = t;
-              coming = next-records (o .coming);
-              many = omega (arith, o .many);
-              result-is = o .result-is;
-              folded = omega (arith, o .folded, f, length-append (v .trace) (foldStatements ctx (i + 1) (v .result) ss .trace));
-            },
-          )
+          let (rest′, before′, t, f) = w ks st ss rest before (o .taking) (es ∙ first-record (o .coming)) i in
+          let few = t .room .stated in
+          let (some, numbers) = number-written ctx kept i ks st (r .«statements_kept») (o .numbers) (t .holds .stated) (omega (arith, few, long)) in
+          let on : Ordered nodes′ records′ starts′ statements′ folded₀ folded′ (set kept (r .«statements_kept» - 1) i) r (i + 1) total (v .result) ss rest′ before′ =
+          record {
+            taking = t;
+            coming = next-records (o .coming);
+            many = omega (arith, o .many);
+            numbers = numbers;
+            result-is = o .result-is;
+            adds = λ a. o .adds (adds-then (foldStatements ctx i ks (st ∷ ss)) refl refl f a);
+          } in
+          (some, omega (arith, few, long), (v .result, ss, rest′, before′, on))
 
     -- there is none
-    pub ordered-ends : total ≤ i → Long h nodes records starts statements → Bytes records → Bytes statements → SomeOrdered nodes records starts statements p i total
-        → FoldsAll file nodes records statements (record { used = p .used; many = p .many; count = p .count; folds = p .folds })
+    pub ordered-ends : total ≤ i → Long h nodes records starts statements folded₀ → h .statements ≤ length kept → Bytes records → Bytes statements → SomeOrdered nodes records starts statements folded₀ folded kept p i total
+        → FoldsAll file nodes records statements folded₀ folded kept (record { «nodes_used» = p .«nodes_used»; «declarators_kept» = p .«declarators_kept»; «statements_kept» = p .«statements_kept»; folds = p .folds; looks = p .looks })
     unfolding foldFile foldedFile withStatements foldStatements pure laidDeclarators laidInitializer nodesIn nodesOf
-    ordered-ends l (l₁, l₂, l₃, l₄) small small′ (ks, st ∷ ss, rest, before, o) = absurd (omega (arith, o .many))
-    ordered-ends l (l₁, l₂, l₃, l₄) small small′ (ks, [], rest, before, o) =
+    ordered-ends l (l₁, l₂, l₃, l₄, l₅) l₆ small small′ (ks, st ∷ ss, rest, before, o) = absurd (omega (arith, o .many))
+    ordered-ends l (l₁, l₂, l₃, l₄, l₅) l₆ small small′ (ks, [], rest, before, o) =
         let a = o .taking .holds in
         let m = o .taking .room in
-        let e = ap (map statementOf) (o .result-is) in (
+        let e = ap (map statementOf) (o .result-is) in
+        let w : Adds folded₀ folded atStart p whole = o .adds (adds-none (pure (reverse ks)) refl refl refl refl) in
+        let n : p .folds ≡ length (foldedNames (whole .trace)) = omega (arith, w .folds, length-map (whole .trace) (λ f. f .name)) in (
           rest,
           drop (0 + 4 * declaratorsKept ks) records,
           drop (0 + 4 * length ks) statements,
@@ -110,6 +121,9 @@ module _ (file : List ℕ) (h : Header) where
             used = rw e (omega (arith, a .ends, a .starting, nodes-counted ks));
             many = rw e (a .declared ∙ declarators-counted records starts statements ks (a .kept));
             count = rw e (a .stated ∙ statements-counted records starts statements ks (a .kept));
-            folded = omega (arith, o .folded);
+            folds = omega (arith, w .folds);
+            names = written-first folded₀ folded (foldedNames (whole .trace)) (w .names) (omega (arith, n, m .declared, l₅)) ∙ ap (λ (k : ℕ). foldedNames (whole .trace) ++ drop k folded₀) (sym n);
+            numbers = ap (λ (k : ℕ). take k kept) (a .stated) ∙ numbers-are kept ks (omega (arith, a .stated, m .stated, l₆)) (o .numbers) ∙ ap (map (λ k. k .number)) (sym (o .result-is));
+            looks = omega (arith, w .looks);
           },
         )

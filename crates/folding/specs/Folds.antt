@@ -1,8 +1,8 @@
 -- The statements of a file, one after the other.
-use Prim.Native.Nat.{ℕ, _+_}
+use Prim.Native.Nat.{ℕ}
 use mathlib.Core.List.{List, [], _∷_, _++_}
 use mathlib.Core.Path.{_≡_}
-use lib.ListN.{length}
+use lib.ListN.{length, take, drop}
 use Rattle.records.specs.Record.{declaratorBytes, statementBytes}
 use Rattle.records.specs.Records.{bytesOf}
 use Rattle.records.specs.Refusal.{refusal}
@@ -15,14 +15,16 @@ use Rattle.table.specs.Laid.{laids}
 use Rattle.walk.specs.Context.{Context}
 use Rattle.statements.specs.Statements.{Kept, foldStatement}
 use Rattle.statements.specs.Fold.{foldFile}
+use Rattle.search.specs.Kept.{foldedNames}
 use Rattle.folding.specs.declared.progress.Progress.{Progress}
 use Rattle.folding.specs.declared.in_order.Totals.{Totals}
+use Rattle.folding.specs.Added.{Adds}
 use Rattle.folding.specs.State.{State}
 
 -- Statements are kept, and these are still to come.
 abbrev pub Taking : List ℕ → Header → List ℕ → List ℕ → List ℕ → List ℕ → Progress → List Kept → List Statement → List ℕ → List NodeRecord → Type 0
 Taking file h nodes records starts statements p ks ss rest before =
-    State file h nodes records starts statements (p .many) p ks [] bare (allTrees ss) (declaratorRecords (allDeclarators ss)) (length ss) rest before
+    State file h nodes records starts statements (p .«declarators_kept») p ks [] bare (allTrees ss) (declaratorRecords (allDeclarators ss)) (length ss) rest before
 
 -- the next is that of this record
 abbrev pub CanFold : List ℕ → Header → List ℕ → List ℕ → List ℕ → List ℕ → StatementRecord → Progress → Type 0
@@ -31,28 +33,32 @@ CanFold file h nodes records starts statements s p =
     × Taking file h nodes records starts statements p ks (st ∷ ss) rest before × (s ≡ statementRecord st)
 
 -- it was folded and pushed
-abbrev pub Folds : Context → List ℕ → Header → List ℕ → List ℕ → List ℕ → List ℕ → List ℕ → List ℕ → List ℕ → List ℕ → StatementRecord → Progress → Progress → Type 0
-Folds ctx file h nodes nodes′ records records′ starts starts′ statements statements′ s p r =
+abbrev pub Folds : Context → List ℕ → Header → List ℕ → List ℕ → List ℕ → List ℕ → List ℕ → List ℕ → List ℕ → List ℕ → List ℕ → List ℕ → StatementRecord → Progress → Progress → Type 0
+Folds ctx file h nodes nodes′ records records′ starts starts′ statements statements′ folded folded′ s p r =
     (ks : List Kept) (st : Statement) (ss : List Statement) (rest : List ℕ) (before : List NodeRecord)
     → Taking file h nodes records starts statements p ks (st ∷ ss) rest before → s ≡ statementRecord st → (number : ℕ)
     → (rest′ : List ℕ) × (before′ : List NodeRecord)
     × Taking file h nodes′ records′ starts′ statements′ r (foldStatement ctx number ks st .result) ss rest′ before′
-    × (r .folds ≡ p .folds + length (foldStatement ctx number ks st .trace))
+    × Adds folded folded′ p r (foldStatement ctx number ks st)
 
 -- the bytes and some room are accepted
 abbrev pub Accepted : List ℕ → Type 0
 Accepted file = (room : ℕ) × (refusal file room ≡ 0)
 
--- The tables hold the statements of the folded file.
-pub record FoldsFile (file nodes records statements : List ℕ) (t : Totals) (rest₁ rest₂ rest₃ : List ℕ) : Type 0 where
+-- The tables hold the statements of the folded file. One list begins with the folded names, in the order of the folds, and is
+-- as it was behind them; another with the numbers of the statements that are kept.
+pub record FoldsFile (file nodes records statements folded folded′ kept : List ℕ) (t : Totals) (rest₁ rest₂ rest₃ : List ℕ) : Type 0 where
   pub trees : nodes ≡ laids (allTrees (foldFile (read file) .file .statements)) rest₁
   pub declared : records ≡ bytesOf declaratorBytes (declaratorRecords (allDeclarators (foldFile (read file) .file .statements))) ++ rest₂
   pub stated : statements ≡ bytesOf statementBytes (statementRecords (foldFile (read file) .file .statements)) ++ rest₃
-  pub used : t .used ≡ sizes (allTrees (foldFile (read file) .file .statements))
-  pub many : t .many ≡ length (allDeclarators (foldFile (read file) .file .statements))
-  pub count : t .count ≡ length (foldFile (read file) .file .statements)
-  pub folded : t .folds ≡ length (foldFile (read file) .trace)
+  pub used : t .«nodes_used» ≡ sizes (allTrees (foldFile (read file) .file .statements))
+  pub many : t .«declarators_kept» ≡ length (allDeclarators (foldFile (read file) .file .statements))
+  pub count : t .«statements_kept» ≡ length (foldFile (read file) .file .statements)
+  pub folds : t .folds ≡ length (foldFile (read file) .trace)
+  pub names : folded′ ≡ foldedNames (foldFile (read file) .trace) ++ drop (t .folds) folded
+  pub numbers : take (t .«statements_kept») kept ≡ foldFile (read file) .kept
+  pub looks : t .looks ≡ foldFile (read file) .looks
 
-abbrev pub FoldsAll : List ℕ → List ℕ → List ℕ → List ℕ → Totals → Type 0
-FoldsAll file nodes records statements t =
-    (rest₁ : List ℕ) × (rest₂ : List ℕ) × (rest₃ : List ℕ) × FoldsFile file nodes records statements t rest₁ rest₂ rest₃
+abbrev pub FoldsAll : List ℕ → List ℕ → List ℕ → List ℕ → List ℕ → List ℕ → List ℕ → Totals → Type 0
+FoldsAll file nodes records statements folded folded′ kept t =
+    (rest₁ : List ℕ) × (rest₂ : List ℕ) × (rest₃ : List ℕ) × FoldsFile file nodes records statements folded folded′ kept t rest₁ rest₂ rest₃

@@ -13,41 +13,43 @@ use Rattle.walk.specs.Context.{Context}
 use Rattle.statements.specs.Statements.{Kept, substituteInStatement}
 use Rattle.load.specs.Load.{FileTree, HasRoom}
 use Rattle.folding.specs.declared.progress.Progress.{Progress}
+use Rattle.folding.specs.Added.{Adds}
 use Rattle.folding.specs.State.{State}
 
 -- a tree is the next, and there is room for it
 abbrev pub HasTree : List ℕ → Header → List ℕ → Progress → Type 0
-HasTree file h nodes p = HasRoom file (nodesStart h) (p .node) nodes (p .used)
+HasTree file h nodes p = HasRoom file (nodesStart h) (p .«nodes_read») nodes (p .«nodes_used»)
 
 -- a tree of so many nodes is loaded
 abbrev pub treePast : Progress → ℕ → Progress
 treePast p many = record {
-  start = p .used;
-  used = p .used + many;
-  many = p .many;
-  count = p .count;
+  tree = record { 0 = p .«nodes_used» };
+  «nodes_used» = p .«nodes_used» + many;
+  «declarators_kept» = p .«declarators_kept»;
+  «statements_kept» = p .«statements_kept»;
   folds = p .folds;
-  node = p .node + many;
-  declarator = p .declarator;
+  looks = p .looks;
+  «nodes_read» = p .«nodes_read» + many;
+  «declarators_read» = p .«declarators_read»;
 }
 
 abbrev pub Loaded : List ℕ → Header → List ℕ → List ℕ → Progress → Progress → Type 0
 Loaded file h nodes nodes′ p r =
-    (t : Tree) (total : ℕ) (before behind : List NodeRecord) → FileTree file (nodesStart h) (p .node) t total before behind
-    → (pre rest : List ℕ) → nodes ≡ pre ++ rest → length pre ≡ 16 * p .used
+    (t : Tree) (total : ℕ) (before behind : List NodeRecord) → FileTree file (nodesStart h) (p .«nodes_read») t total before behind
+    → (pre rest : List ℕ) → nodes ≡ pre ++ rest → length pre ≡ 16 * p .«nodes_used»
     → (r ≡ treePast p (size t)) × (nodes′ ≡ pre ++ laid t (drop (16 * size t) rest))
 
 -- statements are kept, and a tree is the next
 abbrev pub CanTakeNext : List ℕ → Header → List ℕ → List ℕ → List ℕ → List ℕ → Progress → Type 0
 CanTakeNext file h nodes records starts statements p =
     (ks : List Kept) × (t : Tree) × (ts : Trees) × (coming : List DeclaratorRecord) × (left : ℕ) × (rest : List ℕ) × (before : List NodeRecord)
-    × State file h nodes records starts statements (p .many) p ks [] bare (more t ts) coming left rest before
+    × State file h nodes records starts statements (p .«declarators_kept») p ks [] bare (more t ts) coming left rest before
 
 -- it stands behind the statements that its search has left
-abbrev pub SearchedFromStatements : Context → List ℕ → Header → List ℕ → List ℕ → List ℕ → List ℕ → List ℕ → List ℕ → Progress → Progress → Type 0
-SearchedFromStatements ctx file h nodes nodes′ records starts statements statements′ p r =
+abbrev pub SearchedFromStatements : Context → List ℕ → Header → List ℕ → List ℕ → List ℕ → List ℕ → List ℕ → List ℕ → List ℕ → List ℕ → Progress → Progress → Type 0
+SearchedFromStatements ctx file h nodes nodes′ records starts statements statements′ folded folded′ p r =
     (ks : List Kept) (t : Tree) (ts : Trees) (coming : List DeclaratorRecord) (left : ℕ) (rest : List ℕ) (before : List NodeRecord)
-    → State file h nodes records starts statements (p .many) p ks [] bare (more t ts) coming left rest before
+    → State file h nodes records starts statements (p .«declarators_kept») p ks [] bare (more t ts) coming left rest before
     → (rest′ : List ℕ) × (before′ : List NodeRecord)
-    × State file h nodes′ records starts statements′ (r .many) r (substituteInStatement ctx ks t .result .left) [] (given (substituteInStatement ctx ks t .result .target)) ts coming left rest′ before′
-    × (r .folds ≡ p .folds + length (substituteInStatement ctx ks t .trace))
+    × State file h nodes′ records starts statements′ (r .«declarators_kept») r (substituteInStatement ctx ks t .result .left) [] (given (substituteInStatement ctx ks t .result .target)) ts coming left rest′ before′
+    × Adds folded folded′ p r (substituteInStatement ctx ks t)

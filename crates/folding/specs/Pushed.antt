@@ -23,22 +23,24 @@ pub record StatementPushed (statements statements′ : List ℕ) (count : ℕ) (
 -- how far it is then
 abbrev pub declaratorPast : Progress → Progress
 declaratorPast p = record {
-  start = p .used;
-  used = p .used;
-  many = p .many + 1;
-  count = p .count;
+  tree = record { 0 = p .«nodes_used» };
+  «nodes_used» = p .«nodes_used»;
+  «declarators_kept» = p .«declarators_kept» + 1;
+  «statements_kept» = p .«statements_kept»;
   folds = p .folds;
-  node = p .node;
-  declarator = p .declarator + 1;
+  looks = p .looks;
+  «nodes_read» = p .«nodes_read»;
+  «declarators_read» = p .«declarators_read» + 1;
 }
 
 abbrev pub statementPast : Progress → Progress
 statementPast p = record {
-  start = p .used;
-  used = p .used;
-  many = p .many;
-  count = p .count + 1;
+  tree = record { 0 = p .«nodes_used» };
+  «nodes_used» = p .«nodes_used»;
+  «declarators_kept» = p .«declarators_kept»;
+  «statements_kept» = p .«statements_kept» + 1;
   folds = p .folds;
-  node = p .node;
-  declarator = p .declarator;
+  looks = p .looks;
+  «nodes_read» = p .«nodes_read»;
+  «declarators_read» = p .«declarators_read»;
 }

@@ -13,7 +13,7 @@ use Rattle.records.specs.declared.layout.NodeRecord.{NodeRecord}
 use Rattle.records.specs.declared.layout.DeclaratorRecord.{DeclaratorRecord}
 use Rattle.plans.specs.Search.{allBareNames}
 use Rattle.statements.specs.Statements.{Kept}
-use Rattle.search.specs.Kept.{laidInitializer, nodesOf, bareInitializer, laidDeclarators, nodesIn, bareDeclarators, Held}
+use Rattle.search.specs.Kept.{laidInitializer, nodesOf, bareInitializer, laidDeclarators, nodesIn, bareDeclarators, Held, mostInUse}
 use Rattle.search.specs.KeptStatements.{laidKept, nodesKept, declaratorsKept, bareKept, HeldKept}
 use Rattle.load.specs.Load.{FileRow}
 use Rattle.folding.specs.declared.progress.Progress.{Progress}
@@ -23,19 +23,20 @@ abbrev pub mostNodes : Header → ℕ
 mostNodes h = h .nodes + 2 * h .declarators
 
 -- room for what the file has
-abbrev pub Long : Header → List ℕ → List ℕ → List ℕ → List ℕ → Type 0
-Long h nodes records starts statements =
+abbrev pub Long : Header → List ℕ → List ℕ → List ℕ → List ℕ → List ℕ → Type 0
+Long h nodes records starts statements folded =
     (16 * mostNodes h ≤ length nodes) × (4 * h .declarators ≤ length records) × (h .declarators ≤ length starts) × (4 * h .statements ≤ length statements)
+    × (h .declarators ≤ length folded)
 
 -- The tables hold statements that are kept, the last first; behind them the declarators of the declaration under way, the
 -- last first, the first of which has number `low`; and the tree of one more, if it has one.
 pub record Holds (nodes records starts statements : List ℕ) (low : ℕ) (p : Progress) (ks : List Kept) (ds : List Declarator) (i : Initializer) (rest : List ℕ) : Type 0 where
   pub is : nodes ≡ laidKept ks (laidDeclarators ds (laidInitializer i rest))
-  pub stated : p .count ≡ length ks
+  pub stated : p .«statements_kept» ≡ length ks
   pub declared : low ≡ declaratorsKept ks
-  pub counted : p .many ≡ low + length ds
-  pub starting : p .start ≡ nodesKept ks + nodesIn ds
-  pub ends : p .used ≡ p .start + nodesOf i
+  pub counted : p .«declarators_kept» ≡ low + length ds
+  pub starting : p .tree .0 ≡ nodesKept ks + nodesIn ds
+  pub ends : p .«nodes_used» ≡ p .tree .0 + nodesOf i
   pub kept : HeldKept records starts statements ks
   pub held : Held records starts low (nodesKept ks) ds
   pub names : bareKept ks ≡ true
@@ -49,16 +50,23 @@ pub record RecordRow {A : Type 0} (readAt : List ℕ → ℕ → A) (file : List
 
 -- the trees and the declarators of the file that are still to come
 pub record Coming (file : List ℕ) (h : Header) (p : Progress) (ts : Trees) (ds : List DeclaratorRecord) (before : List NodeRecord) : Type 0 where
-  pub trees : FileRow file (nodesStart h) (p .node) ts (h .nodes) before []
-  pub records : RecordRow declaratorAt file (declaratorsStart h) (p .declarator) ds
-  pub few : p .declarator + length ds ≤ 65535
+  pub trees : FileRow file (nodesStart h) (p .«nodes_read») ts (h .nodes) before []
+  pub records : RecordRow declaratorAt file (declaratorsStart h) (p .«declarators_read») ds
+  pub few : p .«declarators_read» + length ds ≤ 65535
   pub names : allBareNames ts ≡ true
 
--- they and what is kept are no more than the file has: a fold takes a declarator and adds at most one node
+-- more looks than one search makes, by the law that there are `mostInUse` at most for each declarator
+abbrev pub mostLooks : ℕ
+mostLooks = mostInUse * mostInUse
+
+-- They and what is kept are no more than the file has: a fold takes a declarator and adds at most one node. Each tree that was
+-- read is searched once.
 pub record Room (h : Header) (p : Progress) (nodes declarators statements : ℕ) : Type 0 where
-  pub weight : p .used + p .many + nodes + declarators ≤ mostNodes h
-  pub declared : p .folds + p .many + declarators ≤ h .declarators
-  pub stated : p .count + statements ≤ h .statements
+  pub weight : p .«nodes_used» + p .«declarators_kept» + nodes + declarators ≤ mostNodes h
+  pub declared : p .folds + p .«declarators_kept» + declarators ≤ h .declarators
+  pub stated : p .«statements_kept» + statements ≤ h .statements
+  pub looked : p .looks + mostLooks * nodes ≤ mostLooks * h .nodes
+  pub few : mostNodes h ≤ mostInUse
 
 pub record State (file : List ℕ) (h : Header) (nodes records starts statements : List ℕ) (low : ℕ) (p : Progress) (ks : List Kept) (ds : List Declarator) (i : Initializer) (ts : Trees) (coming : List DeclaratorRecord) (left : ℕ) (rest : List ℕ) (before : List NodeRecord) : Type 0 where
   pub holds : Holds nodes records starts statements low p ks ds i rest

@@ -13,6 +13,7 @@ use crate::next::substitute_in_next_tree;
 use crate::progress::Progress;
 use crate::push::push_declarator;
 use crate::push::push_statement;
+use crate::within_declaration::Declaration;
 use crate::within_declaration::substitute_single_use_symbol_within_declaration;
 use declarators::unsearched::is_unsearched;
 use declarators::unsearched::is_using;
@@ -27,18 +28,19 @@ fn fold_first_declarator(
     declarators: &mut [u8],
     starts: &mut [usize],
     statements: &mut [u8],
+    folded: &mut [u16],
     p: Progress,
 ) -> Progress
     requires { ⌜ h ≡ headerOf (now file) ⌝ }
     requires { ⌜ length (now file) ≡ fileLength h ⌝ }
-    requires { ⌜ Long h (now nodes) (now declarators) (now starts) (now statements) ⌝ }
+    requires { ⌜ Long h (now nodes) (now declarators) (now starts) (now statements) (now folded) ⌝ }
     requires { ⌜ CanTakeFirst (now file) h (now nodes) (now declarators) (now starts) (now statements) p ⌝ }
-    ensures { λ r. ⌜ TakenFirst (contextOf (read (now (file .entry)))) (now (file .entry)) h (now (nodes .entry)) (now (nodes .exit)) (now (declarators .entry)) (now (declarators .exit)) (now (starts .entry)) (now (starts .exit)) (now (statements .entry)) (now (statements .exit)) p r ⌝ }
+    ensures { λ r. ⌜ TakenFirst (contextOf (read (now (file .entry)))) (now (file .entry)) h (now (nodes .entry)) (now (nodes .exit)) (now (declarators .entry)) (now (declarators .exit)) (now (starts .entry)) (now (starts .exit)) (now (statements .entry)) (now (statements .exit)) (now (folded .entry)) (now (folded .exit)) p r ⌝ }
 {
     let d = next_declarator(file, h, p);
     let given = d.present == 1;
     if given {
-        let l = substitute_in_next_tree(file, h, nodes, declarators, starts, statements, p);
+        let l = substitute_in_next_tree(file, h, nodes, declarators, starts, statements, folded, p);
         return push_declarator(declarators, starts, d, l);
     }
     push_declarator(declarators, starts, d, p)
@@ -51,22 +53,23 @@ pub(crate) fn handle_variable_declaration(
     declarators: &mut [u8],
     starts: &mut [usize],
     statements: &mut [u8],
+    folded: &mut [u16],
     s: StatementRecord,
     p: Progress,
 ) -> Progress
     requires { ⌜ h ≡ headerOf (now file) ⌝ }
     requires { ⌜ length (now file) ≡ fileLength h ⌝ }
-    requires { ⌜ Long h (now nodes) (now declarators) (now starts) (now statements) ⌝ }
+    requires { ⌜ Long h (now nodes) (now declarators) (now starts) (now statements) (now folded) ⌝ }
     requires { ⌜ CanFold (now file) h (now nodes) (now declarators) (now starts) (now statements) s p ⌝ }
     requires { ⌜ s .kind < 5 ⌝ }
-    ensures { λ r. ⌜ Folds (contextOf (read (now (file .entry)))) (now (file .entry)) h (now (nodes .entry)) (now (nodes .exit)) (now (declarators .entry)) (now (declarators .exit)) (now (starts .entry)) (now (starts .exit)) (now (statements .entry)) (now (statements .exit)) s p r ⌝ }
+    ensures { λ r. ⌜ Folds (contextOf (read (now (file .entry)))) (now (file .entry)) h (now (nodes .entry)) (now (nodes .exit)) (now (declarators .entry)) (now (declarators .exit)) (now (starts .entry)) (now (starts .exit)) (now (statements .entry)) (now (statements .exit)) (now (folded .entry)) (now (folded .exit)) s p r ⌝ }
 {
     let declared = size(s.declarators);
     if declared == 0 {
         return push_statement(statements, s, p);
     }
-    let first = fold_first_declarator(file, h, nodes, declarators, starts, statements, p);
-    let low = first.many - 1;
+    let first = fold_first_declarator(file, h, nodes, declarators, starts, statements, folded, p);
+    let low = first.declarators_kept - 1;
     let searched = !(is_unsearched(file, h) | is_using(s.kind));
     let last = substitute_single_use_symbol_within_declaration(
         file,
@@ -74,15 +77,18 @@ pub(crate) fn handle_variable_declaration(
         nodes,
         declarators,
         starts,
-        low,
-        searched,
+        folded,
+        Declaration {
+            first: low,
+            searched,
+        },
         declared - 1,
         first,
     );
     let kept = StatementRecord {
         kind: s.kind,
         zero: 0,
-        declarators: (last.many - low) as u16,
+        declarators: (last.declarators_kept - low) as u16,
     };
     push_statement(statements, kept, last)
 }

@@ -1,5 +1,6 @@
 // The statements of an accepted file, in order.
 ghost use mathlib.Core.Path.{_≡_};
+ghost use Prim.Native.Nat.{_≤_};
 ghost use lib.ListN.{length};
 ghost use Rattle.records.specs.Record.{headerOf};
 ghost use Rattle.records.specs.File.{fileLength};
@@ -9,17 +10,21 @@ use crate::progress::Progress;
 use crate::statement::fold_statement;
 use records::header::part_offsets;
 use records::layout::Header;
+use records::layout::NodeId;
 use records::layout::statement_at;
 use records::number::size;
 
-// The nodes, the declarators and the statements that are left, and the declarators folded.
+// How many nodes are in use, how many declarators and statements are kept, the folds and the looks.
 pub struct Totals {
-    pub used: usize,
-    pub many: usize,
-    pub count: usize,
+    pub nodes_used: usize,
+    pub declarators_kept: usize,
+    pub statements_kept: usize,
     pub folds: usize,
+    pub looks: usize,
 }
 
+// Fills the tables with what is kept, and two lists: the names that were folded, in the order of the folds, and the numbers
+// that the statements had in the file.
 pub fn fold_statements(
     file: &[u8],
     h: Header,
@@ -27,35 +32,53 @@ pub fn fold_statements(
     declarators: &mut [u8],
     starts: &mut [usize],
     statements: &mut [u8],
+    folded: &mut [u16],
+    kept: &mut [u16],
 ) -> Totals
     requires { ⌜ h ≡ headerOf (now file) ⌝ }
     requires { ⌜ length (now file) ≡ fileLength h ⌝ }
     requires { ⌜ Accepted (now file) ⌝ }
-    requires { ⌜ Long h (now nodes) (now declarators) (now starts) (now statements) ⌝ }
-    ensures { λ r. ⌜ FoldsAll (now (file .entry)) (now (nodes .exit)) (now (declarators .exit)) (now (statements .exit)) r ⌝ }
+    requires { ⌜ Long h (now nodes) (now declarators) (now starts) (now statements) (now folded) ⌝ }
+    requires { ⌜ h .statements ≤ length (now kept) ⌝ }
+    ensures { λ r. ⌜ FoldsAll (now (file .entry)) (now (nodes .exit)) (now (declarators .exit)) (now (statements .exit)) (now (folded .entry)) (now (folded .exit)) (now (kept .exit)) r ⌝ }
 {
     let parts = part_offsets(h);
     let from = parts[5];
     let count = size(h.statements);
     let mut p = Progress {
-        start: 0,
-        used: 0,
-        many: 0,
-        count: 0,
+        tree: NodeId(0),
+        nodes_used: 0,
+        declarators_kept: 0,
+        statements_kept: 0,
         folds: 0,
-        node: 0,
-        declarator: 0,
+        looks: 0,
+        nodes_read: 0,
+        declarators_read: 0,
     };
     let mut i: usize = 0;
     while i < count {
         let s = statement_at(file, from + 4 * i);
-        p = fold_statement(file, h, nodes, declarators, starts, statements, s, p);
+        p = fold_statement(
+            file,
+            h,
+            nodes,
+            declarators,
+            starts,
+            statements,
+            folded,
+            s,
+            p,
+        );
+        // it is the last that is kept
+        let last = p.statements_kept - 1;
+        kept[last] = i as u16;
         i += 1;
     }
     Totals {
-        used: p.used,
-        many: p.many,
-        count: p.count,
+        nodes_used: p.nodes_used,
+        declarators_kept: p.declarators_kept,
+        statements_kept: p.statements_kept,
         folds: p.folds,
+        looks: p.looks,
     }
 }

@@ -1,5 +1,6 @@
 // The statements of a file, taken in order over lent tables: each tree is searched from what is kept before it.
 pub mod declaration;
+pub mod folded;
 pub mod in_order;
 pub mod next;
 pub mod progress;

@@ -7,20 +7,23 @@ ghost use Rattle.records.specs.File.{fileLength, read, declaratorsStart};
 ghost use Rattle.walk.specs.Context.{contextOf};
 ghost use Rattle.folding.specs.State.{Long};
 ghost use Rattle.folding.specs.Next.{CanTakeNext, Loaded, SearchedFromStatements, HasTree};
+use crate::folded::list_folded;
 use crate::progress::Progress;
 use load::load_tree;
 use records::header::part_offsets;
 use records::layout::DeclaratorRecord;
 use records::layout::Header;
+use records::layout::NodeId;
 use records::layout::declarator_at;
+use search::from_declarators::Target;
 use search::in_statement::substitute_single_use_symbol_in_statement;
 
 pub(crate) fn next_declarator(file: &[u8], h: Header, p: Progress) -> DeclaratorRecord
-    requires { ⌜ declaratorsStart h + 4 * p .declarator + 4 ≤ length (now file) ⌝ }
-    ensures { λ r. ⌜ r ≡ declaratorAt (now (file .entry)) (declaratorsStart h + 4 * p .declarator) ⌝ }
+    requires { ⌜ declaratorsStart h + 4 * p .«declarators_read» + 4 ≤ length (now file) ⌝ }
+    ensures { λ r. ⌜ r ≡ declaratorAt (now (file .entry)) (declaratorsStart h + 4 * p .«declarators_read») ⌝ }
 {
     let parts = part_offsets(h);
-    declarator_at(file, parts[4] + 4 * p.declarator)
+    declarator_at(file, parts[4] + 4 * p.declarators_read)
 }
 
 // Loads the next tree of the file behind the nodes that are in use.
@@ -29,15 +32,16 @@ pub(crate) fn load_next(file: &[u8], h: Header, nodes: &mut [u8], p: Progress) -
     ensures { λ r. ⌜ Loaded (now (file .entry)) h (now (nodes .entry)) (now (nodes .exit)) p r ⌝ }
 {
     let parts = part_offsets(h);
-    let size = load_tree(file, parts[3], p.node, nodes, p.used);
+    let size = load_tree(file, parts[3], NodeId(p.nodes_read), nodes, p.nodes_used);
     Progress {
-        start: p.used,
-        used: p.used + size,
-        many: p.many,
-        count: p.count,
+        tree: NodeId(p.nodes_used),
+        nodes_used: p.nodes_used + size,
+        declarators_kept: p.declarators_kept,
+        statements_kept: p.statements_kept,
         folds: p.folds,
-        node: p.node + size,
-        declarator: p.declarator,
+        looks: p.looks,
+        nodes_read: p.nodes_read + size,
+        declarators_read: p.declarators_read,
     }
 }
 
@@ -49,15 +53,22 @@ pub(crate) fn substitute_in_next_tree(
     declarators: &[u8],
     starts: &[usize],
     statements: &mut [u8],
+    folded: &mut [u16],
     p: Progress,
 ) -> Progress
     requires { ⌜ h ≡ headerOf (now file) ⌝ }
     requires { ⌜ length (now file) ≡ fileLength h ⌝ }
-    requires { ⌜ Long h (now nodes) (now declarators) (now starts) (now statements) ⌝ }
+    requires { ⌜ Long h (now nodes) (now declarators) (now starts) (now statements) (now folded) ⌝ }
     requires { ⌜ CanTakeNext (now file) h (now nodes) (now declarators) (now starts) (now statements) p ⌝ }
-    ensures { λ r. ⌜ SearchedFromStatements (contextOf (read (now (file .entry)))) (now (file .entry)) h (now (nodes .entry)) (now (nodes .exit)) (now (declarators .entry)) (now (starts .entry)) (now (statements .entry)) (now (statements .exit)) p r ⌝ }
+    ensures { λ r. ⌜ SearchedFromStatements (contextOf (read (now (file .entry)))) (now (file .entry)) h (now (nodes .entry)) (now (nodes .exit)) (now (declarators .entry)) (now (starts .entry)) (now (statements .entry)) (now (statements .exit)) (now (folded .entry)) (now (folded .exit)) p r ⌝ }
 {
     let l = load_next(file, h, nodes, p);
+    let tree = l.tree;
+    let target = Target {
+        declarators_kept: l.declarators_kept,
+        tree,
+        nodes_used: l.nodes_used,
+    };
     let r = substitute_single_use_symbol_in_statement(
         file,
         h,
@@ -65,18 +76,25 @@ pub(crate) fn substitute_in_next_tree(
         declarators,
         starts,
         statements,
-        l.count,
-        l.many,
-        l.start,
-        l.used,
+        l.statements_kept,
+        target,
     );
+    list_folded(
+        declarators,
+        r.declarators_kept,
+        l.declarators_kept,
+        folded,
+        l.folds,
+    );
+    let tree = r.tree;
     Progress {
-        start: r.start,
-        used: r.used,
-        many: r.many,
-        count: r.count,
+        tree,
+        nodes_used: r.nodes_used,
+        declarators_kept: r.declarators_kept,
+        statements_kept: r.statements_kept,
         folds: l.folds + r.folds,
-        node: l.node,
-        declarator: l.declarator,
+        looks: l.looks + r.looks,
+        nodes_read: l.nodes_read,
+        declarators_read: l.declarators_read,
     }
 }

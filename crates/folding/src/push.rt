@@ -5,6 +5,7 @@ ghost use lib.ListN.{length};
 ghost use Rattle.folding.specs.Pushed.{DeclaratorPushed, StatementPushed, declaratorPast, statementPast};
 use crate::progress::Progress;
 use records::layout::DeclaratorRecord;
+use records::layout::NodeId;
 use records::layout::StatementRecord;
 use writers::put::put_declarator;
 use writers::put::put_statement;
@@ -16,42 +17,45 @@ pub(crate) fn push_declarator(
     d: DeclaratorRecord,
     p: Progress,
 ) -> Progress
-    requires { ⌜ 4 * p .many + 4 ≤ length (now declarators) ⌝ }
-    requires { ⌜ p .many < length (now starts) ⌝ }
-    requires { ⌜ p .declarator < 65536 ⌝ }
+    requires { ⌜ 4 * p .«declarators_kept» + 4 ≤ length (now declarators) ⌝ }
+    requires { ⌜ p .«declarators_kept» < length (now starts) ⌝ }
+    requires { ⌜ p .«declarators_read» < 65536 ⌝ }
     ensures { λ r. ⌜ r ≡ declaratorPast p ⌝ }
-    ensures { λ _. ⌜ DeclaratorPushed (now (declarators .entry)) (now (declarators .exit)) (now (starts .entry)) (now (starts .exit)) (p .many) (p .start) d ⌝ }
+    ensures { λ _. ⌜ DeclaratorPushed (now (declarators .entry)) (now (declarators .exit)) (now (starts .entry)) (now (starts .exit)) (p .«declarators_kept») (p .tree .0) d ⌝ }
 {
-    let many = p.many;
-    let at = 4 * many;
+    let kept = p.declarators_kept;
+    let at = 4 * kept;
     put_declarator(&mut declarators[at..], d);
-    starts[many] = p.start;
+    let tree = p.tree;
+    starts[kept] = tree.0;
     Progress {
-        start: p.used,
-        used: p.used,
-        many: many + 1,
-        count: p.count,
+        tree: NodeId(p.nodes_used),
+        nodes_used: p.nodes_used,
+        declarators_kept: kept + 1,
+        statements_kept: p.statements_kept,
         folds: p.folds,
-        node: p.node,
-        declarator: p.declarator + 1,
+        looks: p.looks,
+        nodes_read: p.nodes_read,
+        declarators_read: p.declarators_read + 1,
     }
 }
 
 pub(crate) fn push_statement(statements: &mut [u8], s: StatementRecord, p: Progress) -> Progress
-    requires { ⌜ 4 * p .count + 4 ≤ length (now statements) ⌝ }
+    requires { ⌜ 4 * p .«statements_kept» + 4 ≤ length (now statements) ⌝ }
     ensures { λ r. ⌜ r ≡ statementPast p ⌝ }
-    ensures { λ _. ⌜ StatementPushed (now (statements .entry)) (now (statements .exit)) (p .count) s ⌝ }
+    ensures { λ _. ⌜ StatementPushed (now (statements .entry)) (now (statements .exit)) (p .«statements_kept») s ⌝ }
 {
-    let count = p.count;
-    let at = 4 * count;
+    let kept = p.statements_kept;
+    let at = 4 * kept;
     put_statement(&mut statements[at..], s);
     Progress {
-        start: p.used,
-        used: p.used,
-        many: p.many,
-        count: count + 1,
+        tree: NodeId(p.nodes_used),
+        nodes_used: p.nodes_used,
+        declarators_kept: p.declarators_kept,
+        statements_kept: kept + 1,
         folds: p.folds,
-        node: p.node,
-        declarator: p.declarator,
+        looks: p.looks,
+        nodes_read: p.nodes_read,
+        declarators_read: p.declarators_read,
     }
 }

@@ -20,17 +20,18 @@ fn handle_expression_statement(
     declarators: &[u8],
     starts: &[usize],
     statements: &mut [u8],
+    folded: &mut [u16],
     s: StatementRecord,
     p: Progress,
 ) -> Progress
     requires { ⌜ h ≡ headerOf (now file) ⌝ }
     requires { ⌜ length (now file) ≡ fileLength h ⌝ }
-    requires { ⌜ Long h (now nodes) (now declarators) (now starts) (now statements) ⌝ }
+    requires { ⌜ Long h (now nodes) (now declarators) (now starts) (now statements) (now folded) ⌝ }
     requires { ⌜ CanFold (now file) h (now nodes) (now declarators) (now starts) (now statements) s p ⌝ }
     requires { ⌜ s .kind ≡ 5 ⌝ }
-    ensures { λ r. ⌜ Folds (contextOf (read (now (file .entry)))) (now (file .entry)) h (now (nodes .entry)) (now (nodes .exit)) (now (declarators .entry)) (now (declarators .entry)) (now (starts .entry)) (now (starts .entry)) (now (statements .entry)) (now (statements .exit)) s p r ⌝ }
+    ensures { λ r. ⌜ Folds (contextOf (read (now (file .entry)))) (now (file .entry)) h (now (nodes .entry)) (now (nodes .exit)) (now (declarators .entry)) (now (declarators .entry)) (now (starts .entry)) (now (starts .entry)) (now (statements .entry)) (now (statements .exit)) (now (folded .entry)) (now (folded .exit)) s p r ⌝ }
 {
-    let l = substitute_in_next_tree(file, h, nodes, declarators, starts, statements, p);
+    let l = substitute_in_next_tree(file, h, nodes, declarators, starts, statements, folded, p);
     push_statement(statements, s, l)
 }
 
@@ -41,20 +42,41 @@ pub(crate) fn fold_statement(
     declarators: &mut [u8],
     starts: &mut [usize],
     statements: &mut [u8],
+    folded: &mut [u16],
     s: StatementRecord,
     p: Progress,
 ) -> Progress
     requires { ⌜ h ≡ headerOf (now file) ⌝ }
     requires { ⌜ length (now file) ≡ fileLength h ⌝ }
-    requires { ⌜ Long h (now nodes) (now declarators) (now starts) (now statements) ⌝ }
+    requires { ⌜ Long h (now nodes) (now declarators) (now starts) (now statements) (now folded) ⌝ }
     requires { ⌜ CanFold (now file) h (now nodes) (now declarators) (now starts) (now statements) s p ⌝ }
-    ensures { λ r. ⌜ Folds (contextOf (read (now (file .entry)))) (now (file .entry)) h (now (nodes .entry)) (now (nodes .exit)) (now (declarators .entry)) (now (declarators .exit)) (now (starts .entry)) (now (starts .exit)) (now (statements .entry)) (now (statements .exit)) s p r ⌝ }
+    ensures { λ r. ⌜ Folds (contextOf (read (now (file .entry)))) (now (file .entry)) h (now (nodes .entry)) (now (nodes .exit)) (now (declarators .entry)) (now (declarators .exit)) (now (starts .entry)) (now (starts .exit)) (now (statements .entry)) (now (statements .exit)) (now (folded .entry)) (now (folded .exit)) s p r ⌝ }
 {
     if s.kind == 5 {
-        return handle_expression_statement(file, h, nodes, declarators, starts, statements, s, p);
+        return handle_expression_statement(
+            file,
+            h,
+            nodes,
+            declarators,
+            starts,
+            statements,
+            folded,
+            s,
+            p,
+        );
     }
     if s.kind == 6 {
         return push_statement(statements, s, p);
     }
-    handle_variable_declaration(file, h, nodes, declarators, starts, statements, s, p)
+    handle_variable_declaration(
+        file,
+        h,
+        nodes,
+        declarators,
+        starts,
+        statements,
+        folded,
+        s,
+        p,
+    )
 }

@@ -7,22 +7,30 @@ ghost use Rattle.records.specs.File.{fileLength, read};
 ghost use Rattle.walk.specs.Context.{contextOf};
 ghost use Rattle.folding.specs.State.{mostNodes};
 ghost use Rattle.folding.specs.Declarators.{CanTakeLaterTree, TakenLaterTree, CanTakeLater, TakenLater, CanTakeAll, TakenAll};
+use crate::folded::list_folded;
 use crate::next::load_next;
 use crate::next::next_declarator;
 use crate::progress::Progress;
 use crate::push::push_declarator;
 use records::layout::Header;
+use search::from_declarators::Target;
 use search::from_declarators::substitute_single_use_symbol_in_expression_from_declarators;
 
-// Loads the next tree, and searches it from the declarators from number `low` on, if the declaration is searched.
+// A declaration under way: the number of its first declarator, and whether it is searched.
+pub(crate) struct Declaration {
+    pub first: usize,
+    pub searched: bool,
+}
+
+// Loads the next tree, and searches it from the declarators before it, if the declaration is searched.
 fn substitute_in_later_tree(
     file: &[u8],
     h: Header,
     nodes: &mut [u8],
     declarators: &[u8],
     starts: &[usize],
-    low: usize,
-    searched: bool,
+    folded: &mut [u16],
+    d: Declaration,
     p: Progress,
 ) -> Progress
     requires { ⌜ h ≡ headerOf (now file) ⌝ }
@@ -30,33 +38,47 @@ fn substitute_in_later_tree(
     requires { ⌜ 16 * mostNodes h ≤ length (now nodes) ⌝ }
     requires { ⌜ 4 * h .declarators ≤ length (now declarators) ⌝ }
     requires { ⌜ h .declarators ≤ length (now starts) ⌝ }
-    requires { ⌜ CanTakeLaterTree (now file) h (now nodes) (now declarators) (now starts) low p ⌝ }
-    ensures { λ r. ⌜ TakenLaterTree (contextOf (read (now (file .entry)))) searched (now (file .entry)) h (now (nodes .entry)) (now (nodes .exit)) (now (declarators .entry)) (now (starts .entry)) low p r ⌝ }
+    requires { ⌜ h .declarators ≤ length (now folded) ⌝ }
+    requires { ⌜ CanTakeLaterTree (now file) h (now nodes) (now declarators) (now starts) (d .first) p ⌝ }
+    ensures { λ r. ⌜ TakenLaterTree (contextOf (read (now (file .entry)))) (d .searched) (now (file .entry)) h (now (nodes .entry)) (now (nodes .exit)) (now (declarators .entry)) (now (starts .entry)) (now (folded .entry)) (now (folded .exit)) (d .first) p r ⌝ }
 {
     let l = load_next(file, h, nodes, p);
-    if !searched {
+    if !d.searched {
         return l;
     }
+    let tree = l.tree;
+    let target = Target {
+        declarators_kept: l.declarators_kept,
+        tree,
+        nodes_used: l.nodes_used,
+    };
     let r = substitute_single_use_symbol_in_expression_from_declarators(
         file,
         h,
         nodes,
         declarators,
         starts,
-        low,
-        l.many,
-        l.start,
-        l.used,
+        d.first,
+        target,
         false,
     );
+    list_folded(
+        declarators,
+        r.declarators_kept,
+        l.declarators_kept,
+        folded,
+        l.folds,
+    );
+    let tree = r.tree;
     Progress {
-        start: r.start,
-        used: r.used,
-        many: r.many,
-        count: l.count,
+        tree,
+        nodes_used: r.nodes_used,
+        declarators_kept: r.declarators_kept,
+        statements_kept: l.statements_kept,
         folds: l.folds + r.folds,
-        node: l.node,
-        declarator: l.declarator,
+        looks: l.looks + r.looks,
+        nodes_read: l.nodes_read,
+        declarators_read: l.declarators_read,
     }
 }
 
@@ -67,8 +89,8 @@ fn fold_later_declarator(
     nodes: &mut [u8],
     declarators: &mut [u8],
     starts: &mut [usize],
-    low: usize,
-    searched: bool,
+    folded: &mut [u16],
+    d: Declaration,
     p: Progress,
 ) -> Progress
     requires { ⌜ h ≡ headerOf (now file) ⌝ }
@@ -76,16 +98,17 @@ fn fold_later_declarator(
     requires { ⌜ 16 * mostNodes h ≤ length (now nodes) ⌝ }
     requires { ⌜ 4 * h .declarators ≤ length (now declarators) ⌝ }
     requires { ⌜ h .declarators ≤ length (now starts) ⌝ }
-    requires { ⌜ CanTakeLater (now file) h (now nodes) (now declarators) (now starts) low p ⌝ }
-    ensures { λ r. ⌜ TakenLater (contextOf (read (now (file .entry)))) searched (now (file .entry)) h (now (nodes .entry)) (now (nodes .exit)) (now (declarators .entry)) (now (declarators .exit)) (now (starts .entry)) (now (starts .exit)) low p r ⌝ }
+    requires { ⌜ h .declarators ≤ length (now folded) ⌝ }
+    requires { ⌜ CanTakeLater (now file) h (now nodes) (now declarators) (now starts) (d .first) p ⌝ }
+    ensures { λ r. ⌜ TakenLater (contextOf (read (now (file .entry)))) (d .searched) (now (file .entry)) h (now (nodes .entry)) (now (nodes .exit)) (now (declarators .entry)) (now (declarators .exit)) (now (starts .entry)) (now (starts .exit)) (now (folded .entry)) (now (folded .exit)) (d .first) p r ⌝ }
 {
-    let d = next_declarator(file, h, p);
-    let given = d.present == 1;
+    let next = next_declarator(file, h, p);
+    let given = next.present == 1;
     if given {
-        let l = substitute_in_later_tree(file, h, nodes, declarators, starts, low, searched, p);
-        return push_declarator(declarators, starts, d, l);
+        let l = substitute_in_later_tree(file, h, nodes, declarators, starts, folded, d, p);
+        return push_declarator(declarators, starts, next, l);
     }
-    push_declarator(declarators, starts, d, p)
+    push_declarator(declarators, starts, next, p)
 }
 
 // The next `many` declarators.
@@ -95,8 +118,8 @@ pub(crate) fn substitute_single_use_symbol_within_declaration(
     nodes: &mut [u8],
     declarators: &mut [u8],
     starts: &mut [usize],
-    low: usize,
-    searched: bool,
+    folded: &mut [u16],
+    d: Declaration,
     many: usize,
     p: Progress,
 ) -> Progress
@@ -105,13 +128,14 @@ pub(crate) fn substitute_single_use_symbol_within_declaration(
     requires { ⌜ 16 * mostNodes h ≤ length (now nodes) ⌝ }
     requires { ⌜ 4 * h .declarators ≤ length (now declarators) ⌝ }
     requires { ⌜ h .declarators ≤ length (now starts) ⌝ }
-    requires { ⌜ CanTakeAll (now file) h (now nodes) (now declarators) (now starts) low many p ⌝ }
-    ensures { λ r. ⌜ TakenAll (contextOf (read (now (file .entry)))) searched (now (file .entry)) h (now (nodes .entry)) (now (nodes .exit)) (now (declarators .entry)) (now (declarators .exit)) (now (starts .entry)) (now (starts .exit)) low many p r ⌝ }
+    requires { ⌜ h .declarators ≤ length (now folded) ⌝ }
+    requires { ⌜ CanTakeAll (now file) h (now nodes) (now declarators) (now starts) (d .first) many p ⌝ }
+    ensures { λ r. ⌜ TakenAll (contextOf (read (now (file .entry)))) (d .searched) (now (file .entry)) h (now (nodes .entry)) (now (nodes .exit)) (now (declarators .entry)) (now (declarators .exit)) (now (starts .entry)) (now (starts .exit)) (now (folded .entry)) (now (folded .exit)) (d .first) many p r ⌝ }
 {
     let mut left = many;
     let mut q = p;
     while 0 < left {
-        q = fold_later_declarator(file, h, nodes, declarators, starts, low, searched, q);
+        q = fold_later_declarator(file, h, nodes, declarators, starts, folded, d, q);
         left -= 1;
     }
     q

@@ -1,5 +1,5 @@
 -- A tree of a file, copied to the end of the work table node by node. Assumes nothing.
-use mathlib.Core.Path.{_≡_, refl, sym, ap, _∙_}
+use mathlib.Core.Path.{_≡_, sym, ap, _∙_}
 use mathlib.Core.List.{List, _++_, append-nil, append-assoc}
 use Prim.Native.Nat.{ℕ, _+_, _-_, _*_, _≤_, _<_}
 use native.Mathlib.Nat.{add-zero}
@@ -57,15 +57,15 @@ Loading file from at table used table′ next word end =
     → SomeLeft file table′ (pre ++ laid t (drop (16 * size t) rest)) from (4 * (used + size t)) total behind next word end
 
 -- at first it is the whole tree
-pub loading-none : {file : List ℕ} {from at : ℕ} {table : List ℕ} (used : ℕ) → Loading file from at table used table (from + 12 * at) (4 * used) (4 * used + 4)
+pub loading-from : {file : List ℕ} {from at next : ℕ} {table : List ℕ} → next ≡ from + 12 * at → (used : ℕ) → Loading file from at table used table next (4 * used) (4 * used + 4)
 unfolding count sizes laids
-loading-none {at = at} used t total before behind here pre rest is long = (
+loading-from {at = at} e used t total before behind here pre rest is long = (
   at,
   before,
   more t none,
   pre,
   rest,
-  record { here = here; reads = refl; due = omega arith; whole = omega arith; is = is; starts = omega (arith, long); ends = rw add-zero },
+  record { here = here; reads = e; due = omega arith; whole = omega arith; is = is; starts = omega (arith, long); ends = rw add-zero },
 )
 
 module _ {file table goal : List ℕ} {from last total : ℕ} {behind : List NodeRecord} {next word end at : ℕ} {before : List NodeRecord} {done rest : List ℕ} where

@@ -1,40 +1,36 @@
 -- Where the search of a node's children begins: the code's tests and the rules'. Assumes nothing.
 use Prim.Native.Nat.{ℕ, zero, suc, _+_, _-_, _*_, _≤_}
 use native.Mathlib.Omega.{arith}
-use mathlib.Core.Bool.{Bool, true, false, cond, not}
-use mathlib.Core.List.{List, [], _++_}
+use mathlib.Core.Bool.{Bool, true, false, cond, not, or-false}
+use mathlib.Core.List.{List}
 use mathlib.Core.Path.{_≡_, refl, sym, ap, _∙_}
 use lib.Dec.{eqb}
 use borrow.Author.Tests.{eqb-true, ne-eqb}
 use Rattle.records.specs.Record.{nodeAt}
-use Rattle.records.specs.Tree.{Node, Tree, Trees, none, more, count, size, sizes, recordOf, nodeOf}
+use Rattle.records.specs.Tree.{Node, Tree, Trees, none, more, count, size, sizes, joined, nodeOf}
 use Rattle.records.specs.File.{firstTree, one}
 use Rattle.records.specs.declared.layout.NodeRecord.{NodeRecord}
 use Rattle.records.proofs.Tests.{clash}
-use Rattle.table.specs.Table.{workBytes}
-use Rattle.table.specs.Laid.{laid, laids}
-use Rattle.table.proofs.Laid.{first, beyond, inside}
+use Rattle.table.specs.Laid.{laids}
+use Rattle.table.proofs.Laid.{first, inside}
 use Rattle.walk.specs.Context.{Context}
 use Rattle.walk.specs.Shape.{is, never, assignment, steps, shape}
 use Rattle.walk.specs.Effect.{hasEffect, mayHaveSideEffects, anyHasSideEffects}
-use Rattle.walk.specs.Substitute.{passed, nothing, value, next, inOrder, byPlan, plan, keepsIndirect, stopsAtTarget, substituteInChildren}
+use Rattle.walk.specs.Substitute.{Answer as RuleAnswer, replaced, stopped, passed, nothing, value, next, inOrder, byPlan, plan, keepsIndirect, stopsAtTarget, substituteInChildren}
 use Rattle.walk.specs.Looks.{entersFirst, goesOn, looksInChildren}
 use Rattle.effects.specs.Passes.{Passes}
 use Rattle.effects.proofs.Passing.{passes-tree}
-use Rattle.plans.specs.declared.shape.Shape.{Shape}
-use Rattle.plans.specs.declared.shape.Shape.the-variants.{Constant, Identifier, TargetName, Leaf, Chain, Import, Delete, Sequence, Property, Stopping, Assignment, CompoundAssignment, Logical, Conditional, Optional, Steps}
+use Rattle.plans.specs.declared.arms.Shape.{Shape}
+use Rattle.plans.specs.declared.arms.Shape.the-variants.{Constant, Identifier, TargetName, Leaf, Chain, Import, Delete, Sequence, Property, Stopping, Assignment, CompoundAssignment, Logical, Conditional, Optional, Steps}
 use Rattle.plans.specs.declared.sought.Sought.{Sought}
-use Rattle.plans.specs.declared.begin.Begun.{Begun}
-use Rattle.plans.specs.Shapes.{shaped, planned, isAssignment, isCompound}
-use Rattle.plans.specs.Plans.{KeepsIndirect, PlansFor}
-use Rattle.plans.specs.Passing.{stopsIn}
+use Rattle.plans.specs.declared.arms.Begun.{Begun}
+use Rattle.plans.specs.Arms.{shaped, planned, isAssignment, isCompound, KeepsIndirect, PlansFor, stopsIn}
 use Rattle.plans.specs.Child.{FirstChild}
-use Rattle.plans.specs.Begins.{StopsAt, BeginsAt, planBehind}
+use Rattle.plans.specs.Begins.{StopsAt, BeginsAt, planBehind, behindRow}
 use Rattle.plans.proofs.Children.{node-is, children-are}
-use Rattle.plans.proofs.Behind.{all-bare, behind-none, behind-first}
 
 -- what is no assignment has no target
-no-target : (ctx : Context) (replacement : Tree) (kids : Trees) (s : Shape) → isAssignment s ≡ false → false ≡ stopsIn ctx replacement (shaped s) kids
+pub no-target : (ctx : Context) (replacement : Tree) (kids : Trees) (s : Shape) → isAssignment s ≡ false → false ≡ stopsIn ctx replacement (shaped s) kids
 no-target ctx replacement kids Constant a = refl
 no-target ctx replacement kids Identifier a = refl
 no-target ctx replacement kids TargetName a = refl
@@ -83,51 +79,67 @@ no-tag n c e = by (is 24 n) refl
     by true q = absurd (let z : steps never ≡ assignment c = sym (tag-steps n q) ∙ e in let y : _≡_ {A = ℕ} 0 1 = cc in omega arith)
     by false q = q
 
+-- nothing is passed before, or one tree is
+behind-none : (a : RuleAnswer Trees) → a ≡ behindRow none a
+unfolding joined
+behind-none (replaced ts) = refl
+behind-none (stopped ts) = refl
+behind-none passed = refl
+
+behind-one : (t : Tree) (ts : Trees) (a : RuleAnswer Trees) → inOrder t ts passed a ≡ behindRow (more t none) a
+unfolding joined inOrder
+behind-one t ts (replaced us) = refl
+behind-one t ts (stopped us) = refl
+behind-one t ts passed = refl
+
 -- The search of a node that is no assignment begins at its first child.
-module _ (ctx : Context) {table : List ℕ} {at : ℕ} {n : NodeRecord} (e : n ≡ nodeAt table (16 * at)) {s : Sought} {g : Begun} (x : Shape) (sh : shaped x ≡ shape (nodeOf n)) where
-  pub begins-first : isAssignment x ≡ false → (child : NodeRecord) → FirstChild table at child → PlansFor x n child s (g .plan)
+module _ (ctx : Context) {table : List ℕ} {at : ℕ} {n : NodeRecord} (e : n ≡ nodeAt table (16 * at)) {s : Sought} {g : Begun} (sh : shaped (g .shape) ≡ shape (nodeOf n)) where
+  pub begins-first : isAssignment (g .shape) ≡ false → (child : NodeRecord) → FirstChild table at child → PlansFor (g .shape) n child s (g .plan)
       → KeepsIndirect n child s (g .indirect) → g .next .0 ≡ at + 1 → g .left ≡ n .children → g .effect ≡ false → g .stops ≡ false → BeginsAt ctx table at s g
+  unfolding joined sizes anyHasSideEffects
   begins-first a child f p k nx l ef st R d pre m kids rest h =
       let q = f pre m kids rest h in
-      let planned-so : g .indirect ≡ false → planned (g .plan) ≡ plan ctx (s .name .0) R (shape m) m kids = λ i.
-      rw (node-is e h, ← sh) (p ctx R d kids q a (sym (k R d kids q) ∙ i)) in (
+      let i : g .indirect ≡ keepsIndirect (s .name .0) R m kids = rw (node-is e h) (k R d kids q) in
+      let planned-so : g .indirect ≡ false → plan ctx (s .name .0) R (shape m) m kids ≡ planned (g .plan) = λ j.
+      rw (node-is e h, ← sh) (sym (p ctx R d kids q a (rw (← node-is e h) (sym i ∙ j)))) in (
+        none,
         kids,
-        pre ++ workBytes (recordOf m (count kids)),
         record {
-          stops-is = st ∙ rw (node-is e h, ← sh) (no-target ctx R kids x a);
-          indirect-is = rw (node-is e h) (k R d kids q);
-          later = omega (arith, nx);
-          here = rw nx (inside h);
-          many = sym (children-are e h) ∙ sym l;
-          bare = λ b. b;
-          on = λ i did b. behind-none (rw (nx, planned-so i) at did) (rw ef at b);
-          looks = λ i. ap (λ x. looksInChildren ctx (s .name .0) R x kids) (planned-so i);
+          shape-is = rw (node-is e h) sh;
+          stops-is = st ∙ rw (node-is e h, ← sh) (no-target ctx R kids (g .shape) a);
+          indirect-is = i;
+          whole = refl;
+          next-is = omega (arith, nx);
+          many = l ∙ children-are e h;
+          effect-is = ef;
+          rule = λ j. ap (λ x. substituteInChildren ctx (s .name .0) R x kids) (planned-so j) ∙ behind-none (substituteInChildren ctx (s .name .0) R (planned (g .plan)) kids);
+          looks = λ j. ap (λ x. looksInChildren ctx (s .name .0) R x kids) (planned-so j);
         },
       )
 
 -- a plan that searches nothing
 module _ (ctx : Context) (x : ℕ) (R : Tree) where
-  nothing-found : (ts : Trees) → substituteInChildren ctx x R nothing ts ≡ passed
+  pub nothing-found : (ts : Trees) → substituteInChildren ctx x R nothing ts ≡ passed
   unfolding substituteInChildren byPlan
   nothing-found none = refl
   nothing-found (more t ts) = refl
 
-  nothing-looked : (ts : Trees) → looksInChildren ctx x R nothing ts ≡ 0
+  pub nothing-looked : (ts : Trees) → looksInChildren ctx x R nothing ts ≡ 0
   unfolding looksInChildren entersFirst goesOn
   nothing-looked none = refl
   nothing-looked (more t ts) = refl
 
   -- behind a target, and from the target on
   found-behind-target : (t : Tree) (ts : Trees) (stops : Bool)
-      → inOrder t ts passed (substituteInChildren ctx x R (planBehind stops) ts) ≡ substituteInChildren ctx x R (cond stops nothing value) (more t ts)
+      → substituteInChildren ctx x R (cond stops nothing value) (more t ts) ≡ inOrder t ts passed (substituteInChildren ctx x R (planBehind stops) ts)
   unfolding substituteInChildren byPlan inOrder next
   found-behind-target t ts true = rw (nothing-found ts) refl
   found-behind-target t ts false = refl
 
   looked-behind-target : (t : Tree) (ts : Trees) (stops : Bool)
-      → looksInChildren ctx x R (planBehind stops) ts ≡ looksInChildren ctx x R (cond stops nothing value) (more t ts)
+      → looksInChildren ctx x R (cond stops nothing value) (more t ts) ≡ looksInChildren ctx x R (planBehind stops) ts
   unfolding looksInChildren entersFirst goesOn next
-  looked-behind-target t ts true = nothing-looked ts
+  looked-behind-target t ts true = sym (nothing-looked ts)
   looked-behind-target t ts false = omega arith
 
 -- what the rules say of an assignment
@@ -135,7 +147,7 @@ module _ (ctx : Context) (R : Tree) (m : Node) (c : Bool) (sm : shape m ≡ assi
   stops-assigned : stopsAtTarget ctx R c (firstTree kids) ≡ stopsIn ctx R (shape m) kids
   stops-assigned = rw sm refl
 
-  plan-assigned : (x : ℕ) (stops : Bool) → stops ≡ stopsAtTarget ctx R c (firstTree kids) → cond stops nothing value ≡ plan ctx x R (shape m) m kids
+  plan-assigned : (x : ℕ) (stops : Bool) → stops ≡ stopsAtTarget ctx R c (firstTree kids) → plan ctx x R (shape m) m kids ≡ cond stops nothing value
   unfolding plan
   plan-assigned x stops e = rw (sm, e) refl
 
@@ -152,43 +164,44 @@ first-of-many zero o z = omega (arith, o)
 first-of-many (suc k) {many} o z = omega (arith, one-of (suc k) many o k refl, z)
 
 -- The search of an assignment begins behind its target.
-module _ (ctx : Context) {table : List ℕ} {at : ℕ} {n : NodeRecord} (e : n ≡ nodeAt table (16 * at)) {s : Sought} {g : Begun} (x : Shape) (sh : shaped x ≡ shape (nodeOf n)) (a : isAssignment x ≡ true) {many : ℕ} (o : many ≡ one (not (eqb (n .children) 0))) (p : Passes table (at + 1) many (g .next .0) (g .effect)) (c : Bool) (k : c ≡ isCompound x) (w : StopsAt ctx table (at + 1) many s c (g .effect) (g .stops)) (b : planned (g .plan) ≡ planBehind (g .stops)) (l : g .left ≡ n .children - many) (i : g .indirect ≡ false) where
+module _ (ctx : Context) {table : List ℕ} {at : ℕ} {n : NodeRecord} (e : n ≡ nodeAt table (16 * at)) {s : Sought} {g : Begun} (sh : shaped (g .shape) ≡ shape (nodeOf n)) (a : isAssignment (g .shape) ≡ true) {many : ℕ} (o : many ≡ one (not (eqb (n .children) 0))) (p : Passes table (at + 1) many (g .next .0) (g .effect)) (c : Bool) (k : c ≡ isCompound (g .shape)) (w : StopsAt ctx table (at + 1) many s c (g .effect) (g .stops)) (b : planned (g .plan) ≡ planBehind (g .stops)) (l : g .left ≡ n .children - many) (i : g .indirect ≡ false) where
   pub begins-behind : BeginsAt ctx table at s g
-  unfolding count sizes size mayHaveSideEffects anyHasSideEffects hasEffect firstTree substituteInChildren looksInChildren
+  unfolding count sizes size joined mayHaveSideEffects anyHasSideEffects hasEffect firstTree substituteInChildren looksInChildren
   begins-behind R d pre m none rest h =
       let none-many : many ≡ 0 = o ∙ rw (children-are e h) refl in
-      let sm : shape m ≡ assignment c = rw (node-is e h, k) (sym sh ∙ assigns x a) in
-      let over = p _ none rest (inside h) (sym none-many) in
-      let nx : g .next .0 ≡ at + 1 = omega (arith, over .0) in (
+      let sm : shape m ≡ assignment c = rw (node-is e h, k) (sym sh ∙ assigns (g .shape) a) in
+      let over = p _ none rest (inside h) (sym none-many) in (
         none,
-        pre ++ workBytes (recordOf m 0),
+        none,
         record {
+          shape-is = rw (node-is e h) sh;
           stops-is = w R d _ none rest (inside h) (sym none-many) (over .1) ∙ stops-assigned ctx R m c sm none;
           indirect-is = i ∙ not-indirect ctx R m c sm none (s .name .0);
-          later = omega (arith, nx);
-          here = rw nx (inside h);
+          whole = refl;
+          next-is = over .0;
           many = omega (arith, l, children-are e h);
-          bare = λ b. b;
-          on = λ j did v. behind-none (rw nx at did) (rw (over .1) at v);
+          effect-is = over .1;
+          rule = λ j. refl;
           looks = λ j. refl;
         },
       )
   begins-behind R d pre m (more t ts) rest h =
       let one-many : many ≡ 1 = one-of (n .children) many o (count ts) (children-are e h) in
-      let sm : shape m ≡ assignment c = rw (node-is e h, k) (sym sh ∙ assigns x a) in
+      let sm : shape m ≡ assignment c = rw (node-is e h, k) (sym sh ∙ assigns (g .shape) a) in
       let over = passes-tree (rw one-many at p) (first (inside h)) in
       let st = w R d _ (more t none) (laids ts rest) (first (inside h)) (sym one-many) (over .1) in
       let planned-so = plan-assigned ctx R m c sm (more t ts) (s .name .0) (g .stops) st in (
+        more t none,
         ts,
-        (pre ++ workBytes (recordOf m (count (more t ts)))) ++ laid t [],
         record {
+          shape-is = rw (node-is e h) sh;
           stops-is = st ∙ stops-assigned ctx R m c sm (more t ts);
           indirect-is = i ∙ not-indirect ctx R m c sm (more t ts) (s .name .0);
-          later = omega (arith, over .0);
-          here = rw (over .0) (beyond (inside h));
+          whole = refl;
+          next-is = omega (arith, over .0);
           many = omega (arith, l, children-are e h, one-many);
-          bare = λ b. all-bare t ts b .1;
-          on = λ j did v. rw (← planned-so, ← found-behind-target ctx (s .name .0) R t ts (g .stops)) (behind-first (g .effect) (over .1) _ (rw (over .0, b) at did) v);
-          looks = λ j. rw (← planned-so, b) (looked-behind-target ctx (s .name .0) R t ts (g .stops));
+          effect-is = over .1 ∙ sym (or-false (mayHaveSideEffects t));
+          rule = λ j. rw (planned-so, b) (found-behind-target ctx (s .name .0) R t ts (g .stops) ∙ behind-one t ts (substituteInChildren ctx (s .name .0) R (planBehind (g .stops)) ts));
+          looks = λ j. rw (planned-so, b) (looked-behind-target ctx (s .name .0) R t ts (g .stops));
         },
       )

@@ -1,7 +1,8 @@
 -- Laws for the parts of the search.
-pub mod Planning
-pub mod MayPass
+pub mod ByRule
 pub mod Children
 pub mod Targets
-pub mod Behind
 pub mod Beginning
+pub mod Tags
+pub mod BareNames
+pub mod Looking

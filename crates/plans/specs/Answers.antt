@@ -1,33 +1,67 @@
--- The answers of the code: `Some(true)`, `Some(false)` and `None` of the Rust.
-use mathlib.Core.Bool.{Bool, true, false, cond}
-use mathlib.Core.Path.{_≡_}
-use Prim.Native.Nat.{ℕ, _+_}
-use Rattle.records.specs.declared.layout.NodeId.{NodeId}
+-- The answers of the code, `Some(true)`, `Some(false)` and `None` of the Rust, and the answers of the rules that they stand
+-- for.
+use Prim.Native.Nat.{ℕ, zero, suc, _-_}
+use mathlib.Core.Bool.{Bool, true, false, cond, _&&_, _||_}
+use lib.Dec.{eqb, ltb}
+use Rattle.records.specs.Tree.{Node, Tree, Trees, node, none, more, count, size}
+use Rattle.walk.specs.Substitute.{Answer as RuleAnswer, replaced, stopped, passed, at as atPosition, preserveIndirectAccess, isSpecificId}
 use Rattle.plans.specs.declared.walked.Answer.{Answer}
 use Rattle.plans.specs.declared.walked.Answer.the-variants.{Replaced, Stopped, Passed}
-use Rattle.plans.specs.declared.walked.Walked.{Walked}
-
-abbrev pub isPassed : Answer → Bool
-isPassed Replaced = false
-isPassed Stopped = false
-isPassed Passed = true
 
 abbrev pub isReplaced : Answer → Bool
-isReplaced Replaced = true
+isReplaced (Replaced place indirect) = true
 isReplaced Stopped = false
-isReplaced Passed = false
+isReplaced (Passed effect) = false
 
--- a node whose children are passed, by whether it may be
-abbrev pub byPassing : Bool → NodeId → Bool → ℕ → Walked
-byPassing passes next effect looks =
-    cond passes
-    (record { answer = Passed; next = next; effect = effect; place = next; indirect = false; looks = looks })
-    (record { answer = Stopped; next = next; effect = false; place = next; indirect = false; looks = looks })
+abbrev pub isPassed : Answer → Bool
+isPassed (Replaced place indirect) = false
+isPassed Stopped = false
+isPassed (Passed effect) = true
 
--- a branch in which the search ended, and the other one: replaced if that one is, else stopped
-pub record Either (a b r : Walked) : Type 0 where
-  pub answer : r .answer ≡ cond (isReplaced (b .answer)) Replaced Stopped
-  pub next : r .next ≡ b .next
-  pub place : isReplaced (b .answer) ≡ true → r .place ≡ b .place
-  pub indirect : isReplaced (b .answer) ≡ true → r .indirect ≡ b .indirect
-  pub looks : r .looks ≡ a .looks + b .looks
+-- an answer behind trees that are passed and have this effect
+abbrev pub behind : Bool → Answer → Answer
+behind effect (Replaced place indirect) = Replaced place indirect
+behind effect Stopped = Stopped
+behind effect (Passed acts) = Passed (effect || acts)
+
+-- where the search ended in one branch: what it says of both, by what it says of the other
+abbrev pub either : Answer → Answer
+either (Replaced place indirect) = Replaced place indirect
+either Stopped = Stopped
+either (Passed effect) = Stopped
+
+-- a tree in the place of a name; where the name is a tag it may have to stay indirect
+abbrev pub placed : Bool → Tree → Node → Tree
+placed indirect t name = cond indirect (preserveIndirectAccess (atPosition (name .position) t)) (atPosition (name .position) t)
+
+-- a tree with another one in the place of the node that has this number in its preorder; trees in a row
+unfoldable mutual
+  pub putAt : Tree → ℕ → (Node → Tree) → Tree
+  putAt (node n kids) zero put = put n
+  putAt (node n kids) (suc k) put = node n (putIn kids k put)
+
+  pub putIn : Trees → ℕ → (Node → Tree) → Trees
+  putIn none k put = none
+  putIn (more t ts) k put = cond (ltb k (size t)) (more (putAt t k put) ts) (more t (putIn ts (k - size t) put))
+
+-- the node that has this number is the name, and has no children
+unfoldable mutual
+  pub nameAt : ℕ → Tree → ℕ → Bool
+  nameAt name (node n kids) zero = isSpecificId name n && eqb (count kids) 0
+  nameAt name (node n kids) (suc k) = nameIn name kids k
+
+  pub nameIn : ℕ → Trees → ℕ → Bool
+  nameIn name none k = false
+  nameIn name (more t ts) k = cond (ltb k (size t)) (nameAt name t k) (nameIn name ts (k - size t))
+
+-- The rule's answer: what the code's says of the tree `held` that stands now at node number `at`, where `t` is to be placed;
+-- and of trees in a row.
+unfoldable pub told : Answer → ℕ → Tree → Tree → RuleAnswer Tree
+told (Replaced place indirect) at t held = replaced (putAt held (place .0 - at) (placed indirect t))
+told Stopped at t held = stopped held
+told (Passed effect) at t held = passed
+
+unfoldable pub toldRow : Answer → ℕ → Tree → Trees → RuleAnswer Trees
+toldRow (Replaced place indirect) at t held = replaced (putIn held (place .0 - at) (placed indirect t))
+toldRow Stopped at t held = stopped held
+toldRow (Passed effect) at t held = passed

@@ -1,24 +1,20 @@
 -- Where the search of a node's children begins: behind an assignment's target, else at the first child.
-use Prim.Native.Nat.{ℕ, _+_, _≤_}
-use mathlib.Core.Bool.{Bool, true, false, cond, _||_}
-use mathlib.Core.List.{List, _++_}
+use Prim.Native.Nat.{ℕ, _+_}
+use mathlib.Core.Bool.{Bool, false, cond}
+use mathlib.Core.List.{List}
 use mathlib.Core.Path.{_≡_}
-use Rattle.records.specs.Tree.{Node, Tree, Trees, node, count, recordOf}
+use Rattle.records.specs.Tree.{Node, Tree, Trees, node, count, sizes, joined}
 use Rattle.records.specs.File.{firstTree}
-use Rattle.table.specs.Table.{workBytes}
 use Rattle.table.specs.Laid.{At, TreeAt}
 use Rattle.walk.specs.Context.{Context}
 use Rattle.walk.specs.Shape.{shape}
-use Rattle.walk.specs.Effect.{mayHaveSideEffects}
-use Rattle.walk.specs.Substitute.{Plan as RulePlan, all, nothing, plan, keepsIndirect, stopsAtTarget, substituteInChildren}
+use Rattle.walk.specs.Effect.{mayHaveSideEffects, anyHasSideEffects}
+use Rattle.walk.specs.Substitute.{Answer as RuleAnswer, replaced, stopped, passed, Plan as RulePlan, all, nothing, plan, keepsIndirect, stopsAtTarget, substituteInChildren}
 use Rattle.walk.specs.Looks.{looksInChildren}
 use Rattle.plans.specs.declared.sought.Sought.{Sought}
-use Rattle.plans.specs.declared.begin.Begun.{Begun}
-use Rattle.plans.specs.declared.walked.Walked.{Walked}
-use Rattle.plans.specs.Shapes.{planned}
+use Rattle.plans.specs.declared.arms.Begun.{Begun}
+use Rattle.plans.specs.Arms.{shaped, planned, stopsIn}
 use Rattle.plans.specs.Described.{Describes}
-use Rattle.plans.specs.Passing.{stopsIn}
-use Rattle.plans.specs.Search.{allBareNames, Did}
 
 -- whether the first of the trees at a place, as a target, ends the search
 abbrev pub StopsAt : Context → List ℕ → ℕ → ℕ → Sought → Bool → Bool → Bool → Type 0
@@ -31,30 +27,27 @@ StopsAt ctx table at many s isCompound effect r =
 abbrev pub planBehind : Bool → RulePlan
 planBehind stops = cond stops nothing all
 
--- a result with another's effect before it
-pub record Behind (effect : Bool) (r q : Walked) : Type 0 where
-  pub answer : q .answer ≡ r .answer
-  pub next : q .next ≡ r .next
-  pub effects : q .effect ≡ (effect || r .effect)
-  pub place : q .place ≡ r .place
-  pub indirect : q .indirect ≡ r .indirect
+-- the rules' answer on a row whose first trees are passed, by that on the others
+abbrev pub behindRow : Trees → RuleAnswer Trees → RuleAnswer Trees
+behindRow before (replaced ts) = replaced (joined before ts)
+behindRow before (stopped ts) = stopped (joined before ts)
+behindRow before passed = passed
 
--- The children `left`, from where the search begins on: what the search of them does is, with the effect of what was passed
--- before, what the search of all children does.
-pub record Begins (ctx : Context) (table : List ℕ) (at : ℕ) (s : Sought) (g : Begun) (replacement : Tree) (pre : List ℕ) (n : Node) (kids : Trees) (rest : List ℕ) (left : Trees) (before : List ℕ) : Type 0 where
+-- The children are those that are passed before, and those that are left: the rules' answer on all of them, and their looks,
+-- are those on the ones that are left, by the plan for these.
+pub record Begins (ctx : Context) (at : ℕ) (s : Sought) (g : Begun) (replacement : Tree) (n : Node) (kids before left : Trees) : Type 0 where
+  pub shape-is : shaped (g .shape) ≡ shape n
   pub stops-is : g .stops ≡ stopsIn ctx replacement (shape n) kids
   pub indirect-is : g .indirect ≡ keepsIndirect (s .name .0) replacement n kids
-  pub later : at + 1 ≤ g .next .0
-  pub here : At table (g .next .0) left before rest
-  pub many : count left ≡ g .left
-  pub bare : allBareNames kids ≡ true → allBareNames left ≡ true
-  pub on : g .indirect ≡ false → {table′ : List ℕ} {r q : Walked}
-      → Did table′ (g .next .0) left before rest replacement r (substituteInChildren ctx (s .name .0) replacement (planned (g .plan)) left)
-      → Behind (g .effect) r q
-      → Did table′ (at + 1) kids (pre ++ workBytes (recordOf n (count kids))) rest replacement q (substituteInChildren ctx (s .name .0) replacement (plan ctx (s .name .0) replacement (shape n) n kids) kids)
-  pub looks : g .indirect ≡ false → looksInChildren ctx (s .name .0) replacement (planned (g .plan)) left ≡ looksInChildren ctx (s .name .0) replacement (plan ctx (s .name .0) replacement (shape n) n kids) kids
+  pub whole : kids ≡ joined before left
+  pub next-is : g .next .0 ≡ at + 1 + sizes before
+  pub many : g .left ≡ count left
+  pub effect-is : g .effect ≡ anyHasSideEffects before
+  pub rule : g .indirect ≡ false → substituteInChildren ctx (s .name .0) replacement (plan ctx (s .name .0) replacement (shape n) n kids) kids ≡ behindRow before (substituteInChildren ctx (s .name .0) replacement (planned (g .plan)) left)
+  pub looks : g .indirect ≡ false → looksInChildren ctx (s .name .0) replacement (plan ctx (s .name .0) replacement (shape n) n kids) kids ≡ looksInChildren ctx (s .name .0) replacement (planned (g .plan)) left
 
+-- so it is of the tree that stands at a place
 abbrev pub BeginsAt : Context → List ℕ → ℕ → Sought → Begun → Type 0
 BeginsAt ctx table at s g =
     (replacement : Tree) → Describes s replacement → (pre : List ℕ) (n : Node) (kids : Trees) (rest : List ℕ) → TreeAt table at (node n kids) pre rest
-    → (left : Trees) × (before : List ℕ) × Begins ctx table at s g replacement pre n kids rest left before
+    → (before : Trees) × (left : Trees) × Begins ctx at s g replacement n kids before left

@@ -1,8 +1,6 @@
 -- What the code's shapes, plans and answers stand for, and what a search does.
-pub mod Shapes
+pub mod Arms
 pub mod Described
-pub mod Plans
-pub mod Passing
 pub mod Child
 pub mod Target
 pub mod Answers

@@ -1,25 +1,24 @@
--- What a search does in the work table, for a row of trees: the answer of the rules, the trees that are left, and where the
--- name was found.
-use Prim.Native.Nat.{ℕ, _+_, _*_}
-use mathlib.Core.Bool.{Bool, true, cond, _&&_, _||_, not}
+-- What a search does in the work table: the answer of the rules on the tree that stands at its place, the looks, and what it
+-- leaves there.
+use Prim.Native.Nat.{ℕ, _+_, _-_, _≤_}
+use mathlib.Core.Bool.{Bool, true, _&&_, _||_, not}
 use lib.Dec.{eqb}
-use mathlib.Core.List.{List, _++_}
+use mathlib.Core.List.{List}
 use mathlib.Core.Path.{_≡_}
-use lib.ListN.{length}
-use Rattle.records.specs.Tree.{Tree, Trees, node, none, more, count, sizes}
-use Rattle.records.specs.declared.layout.NodeRecord.{NodeRecord}
-use Rattle.table.specs.Table.{workBytes}
-use Rattle.table.specs.Laid.{laid, laids, At, TreeAt}
+use Rattle.records.specs.Tree.{Tree, Trees, node, none, more, count, size, sizes}
+use Rattle.table.specs.Laid.{At, TreeAt, treeAt, rowAt}
 use Rattle.walk.specs.Context.{Context}
 use Rattle.walk.specs.Shape.{is}
-use Rattle.walk.specs.Effect.{anyHasSideEffects}
-use Rattle.walk.specs.Substitute.{Answer as RuleAnswer, replaced, stopped, passed, at as atPosition, preserveIndirectAccess, inOrder, substituteInExpression, substituteInChildren}
+use Rattle.walk.specs.Effect.{mayHaveSideEffects, anyHasSideEffects}
+use Rattle.walk.specs.Substitute.{Answer as RuleAnswer, substituteInExpression, substituteInChildren}
 use Rattle.walk.specs.Looks.{looksInExpression, looksInChildren}
 use Rattle.plans.specs.declared.sought.Sought.{Sought}
-use Rattle.plans.specs.declared.plan.Plan.{Plan}
-use Rattle.plans.specs.declared.walked.Walked.{Walked}
+use Rattle.plans.specs.declared.arms.Plan.{Plan}
+use Rattle.plans.specs.declared.walked.Answer.{Answer}
 use Rattle.plans.specs.declared.walked.Answer.the-variants.{Replaced, Stopped, Passed}
-use Rattle.plans.specs.Shapes.{planned}
+use Rattle.plans.specs.declared.walked.Walked.{Walked}
+use Rattle.plans.specs.Arms.{planned}
+use Rattle.plans.specs.Answers.{nameAt, nameIn, told, toldRow}
 use Rattle.plans.specs.Described.{Describes}
 
 -- no name has children, as row 7 of the refusal table has it
@@ -39,42 +38,44 @@ abbrev pub SearchableRow : List ℕ → ℕ → ℕ → Type 0
 SearchableRow table at many =
     (pre : List ℕ) × (ts : Trees) × (rest : List ℕ) × At table at ts pre rest × (count ts ≡ many) × (allBareNames ts ≡ true)
 
--- the tree in the place of a name at this position; a tag may have to stay indirect
-abbrev pub placed : Bool → ℕ → Tree → Tree
-placed indirect position t = cond indirect (preserveIndirectAccess (atPosition position t)) (atPosition position t)
+-- What an answer says besides, of the tree `t` that stood at node number `at` and of `held`, which stands there now: where
+-- the name is that was found, in `held`; where the tree ends; of one that is passed, that it is as it was, and its effect.
+-- The same of trees in a row.
+abbrev pub Besides : ℕ → ℕ → Tree → Tree → ℕ → Answer → Type 0
+Besides name at t held next (Replaced place indirect) = (at ≤ place .0) × (nameAt name held (place .0 - at) ≡ true)
+Besides name at t held next Stopped = next ≡ at + size t
+Besides name at t held next (Passed effect) = (held ≡ t) × (next ≡ at + size t) × (effect ≡ mayHaveSideEffects t)
 
--- The name was found: the table holds trees that differ from what they become only in the name's record, where the tree is
--- to be placed.
-pub record Found (table : List ℕ) (at : ℕ) (ts : Trees) (pre rest : List ℕ) (replacement : Tree) (r : Walked) (ts′ held : Trees) (name : NodeRecord) (between after : List ℕ) : Type 0 where
+abbrev pub BesidesRow : ℕ → ℕ → Trees → Trees → ℕ → Answer → Type 0
+BesidesRow name at ts held next (Replaced place indirect) = (at ≤ place .0) × (nameIn name held (place .0 - at) ≡ true)
+BesidesRow name at ts held next Stopped = next ≡ at + sizes ts
+BesidesRow name at ts held next (Passed effect) = (held ≡ ts) × (next ≡ at + sizes ts) × (effect ≡ anyHasSideEffects ts)
+
+-- The search of the tree `t` has the rule's answer `a`, and `held` stands in its place: nothing else of the table changed.
+pub record Did (table : List ℕ) (at : ℕ) (t : Tree) (pre rest : List ℕ) (name : ℕ) (replacement : Tree) (answer : Answer) (next : ℕ) (a : RuleAnswer Tree) (held : Tree) : Type 0 where
+  pub here : TreeAt table at held pre rest
+  pub says : told answer at replacement held ≡ a
+  pub besides : Besides name at t held next answer
+  pub same : size held ≡ size t
+
+-- the same of trees in a row
+pub record DidRow (table : List ℕ) (at : ℕ) (ts : Trees) (pre rest : List ℕ) (name : ℕ) (replacement : Tree) (answer : Answer) (next : ℕ) (a : RuleAnswer Trees) (held : Trees) : Type 0 where
   pub here : At table at held pre rest
-  pub holds : (x : List ℕ) → laids held x ≡ between ++ (workBytes name ++ (after ++ x))
-  pub becomes : (x : List ℕ) → laids ts′ x ≡ between ++ laid (placed (r .indirect) (name .position) replacement) (after ++ x)
-  pub stands : 16 * r .place .0 ≡ 16 * at + length between
+  pub says : toldRow answer at replacement held ≡ a
+  pub besides : BesidesRow name at ts held next answer
   pub same : sizes held ≡ sizes ts
   pub many : count held ≡ count ts
-  pub still : count ts′ ≡ count ts
 
--- What a search of the trees `ts` has done, by the answer of the rules. A search that doesn't find the name says where the
--- trees end; one that passes them, whether they have an effect.
-pub data Did (table : List ℕ) (at : ℕ) (ts : Trees) (pre rest : List ℕ) (replacement : Tree) (r : Walked) : RuleAnswer Trees → Type 0 where
-  passes : r .answer ≡ Passed → At table at ts pre rest → r .next .0 ≡ at + sizes ts → r .effect ≡ anyHasSideEffects ts → Did table at ts pre rest replacement r passed
-  stops : {ts′ : Trees} → r .answer ≡ Stopped → At table at ts′ pre rest → r .next .0 ≡ at + sizes ts → count ts′ ≡ count ts → sizes ts′ ≡ sizes ts → Did table at ts pre rest replacement r (stopped ts′)
-  replaces : {ts′ held : Trees} {name : NodeRecord} {between after : List ℕ} → r .answer ≡ Replaced → Found table at ts pre rest replacement r ts′ held name between after → Did table at ts pre rest replacement r (replaced ts′)
-
--- an answer of a tree, as that of a row of one
-abbrev pub alone : Tree → RuleAnswer Tree → RuleAnswer Trees
-alone t a = inOrder t none a passed
-
--- The search of the tree at a place has done as the rules say, with their looks.
+-- The search of the tree at a place, from `table` to `table′`, has done as the rules say, with their looks.
 abbrev pub Searches : Context → Sought → List ℕ → List ℕ → ℕ → Walked → Type 0
 Searches ctx s table table′ at r =
-    (replacement : Tree) → Describes s replacement → (pre : List ℕ) (t : Tree) (rest : List ℕ) → TreeAt table at t pre rest → bareNames t ≡ true
-    → Did table′ at (more t none) pre rest replacement r (alone t (substituteInExpression ctx (s .name .0) replacement t))
-    × (r .looks ≡ looksInExpression ctx (s .name .0) replacement t)
+    (replacement : Tree) → Describes s replacement → (pre rest : List ℕ) → TreeAt table at (treeAt table at) pre rest
+    → Did table′ at (treeAt table at) pre rest (s .name .0) replacement (r .answer) (r .end .0) (substituteInExpression ctx (s .name .0) replacement (treeAt table at)) (treeAt table′ at)
+    × (r .looks ≡ looksInExpression ctx (s .name .0) replacement (treeAt table at))
 
 -- the same of a row of so many trees, by a plan
 abbrev pub SearchesRow : Context → Sought → List ℕ → List ℕ → ℕ → ℕ → Plan → Walked → Type 0
 SearchesRow ctx s table table′ at many p r =
-    (replacement : Tree) → Describes s replacement → (pre : List ℕ) (ts : Trees) (rest : List ℕ) → At table at ts pre rest → count ts ≡ many → allBareNames ts ≡ true
-    → Did table′ at ts pre rest replacement r (substituteInChildren ctx (s .name .0) replacement (planned p) ts)
-    × (r .looks ≡ looksInChildren ctx (s .name .0) replacement (planned p) ts)
+    (replacement : Tree) → Describes s replacement → (pre rest : List ℕ) → At table at (rowAt table at many) pre rest
+    → DidRow table′ at (rowAt table at many) pre rest (s .name .0) replacement (r .answer) (r .end .0) (substituteInChildren ctx (s .name .0) replacement (planned p) (rowAt table at many)) (rowAt table′ at many)
+    × (r .looks ≡ looksInChildren ctx (s .name .0) replacement (planned p) (rowAt table at many))

@@ -1,6 +1,6 @@
 -- Records in a series, passed one by one. Assumes nothing.
 use mathlib.Core.Path.{_≡_, refl, sym, ap, _∙_}
-use mathlib.Core.Bool.{Bool, true, _&&_, and-true, and-assoc}
+use mathlib.Core.Bool.{Bool, true, false, _&&_, and-true, and-assoc}
 use mathlib.Core.List.{List, [], _∷_}
 use Prim.Native.Nat.{ℕ, zero, suc, _+_, _-_, _*_, _≤_, _<_}
 use native.Mathlib.Omega.{arith}
@@ -49,6 +49,11 @@ module _ {A : Type 0} {good : ℕ → A → Bool} {readAt : ℕ → A} {len n fr
     within = omega arith;
     same = rw (er, ex, mul-add, mul-one, ← add-assoc) (and-assoc so _ _ ∙ ap (λ (xs : List A). so && everyFrom good i xs) (sym (next-record readAt len n i (from + len * i) h)) ∙ p .same);
   }
+
+  -- one record that is bad
+  pub passed-bad : {i : ℕ} (x : A) → Passed good readAt len n from true i → i < n → x ≡ readAt (from + len * i) → false ≡ good i x
+      → false ≡ everyFrom good 0 (recordsFrom readAt len n from)
+  passed-bad x p h ex er = passed-more x false p h ex er .same
 
   pub passed-all : {so : Bool} {i : ℕ} → Passed good readAt len n from so i → n ≤ i → so ≡ everyFrom good 0 (recordsFrom readAt len n from)
   unfolding everyFrom

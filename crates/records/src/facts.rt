@@ -10,6 +10,7 @@ use crate::layout::Frame;
 use crate::layout::NameFacts;
 use crate::layout::NameId;
 use crate::layout::Scope;
+use crate::layout::ScopeId;
 use crate::layout::frame_at;
 use crate::layout::name_at;
 use crate::layout::scope_at;
@@ -28,11 +29,12 @@ pub fn name_is_good(n: NameFacts, scopes: u16) -> bool
     (n.flags < 512) & (unresolved & good_unresolved | !unresolved & good_resolved)
 }
 
-pub fn scope_is_good(s: Scope, i: usize) -> bool
-    ensures { λ r. ⌜ r ≡ goodScope i s ⌝ }
+// A scope, by its own number.
+pub fn scope_is_good(s: Scope, own: ScopeId) -> bool
+    ensures { λ r. ⌜ r ≡ goodScope (own .0) s ⌝ }
 {
-    let parent = size(s.parent);
-    (s.flags < 4) & ((i == 0) & (s.parent == NO_NUMBER) | !(i == 0) & (parent < i))
+    let first = own.0 == 0;
+    (s.flags < 4) & (first & (s.parent == NO_NUMBER) | !first & (s.parent < own.0))
 }
 
 pub fn frame_is_good(f: Frame, scopes: u16) -> bool
@@ -56,14 +58,14 @@ pub fn names_are_good(file: &[u8], from: usize, count: usize, scopes: u16) -> bo
 }
 
 // Whether all of the scopes from `from` on are good.
-pub fn scopes_are_good(file: &[u8], from: usize, count: usize) -> bool
+pub fn scopes_are_good(file: &[u8], from: usize, count: u16) -> bool
     requires { ⌜ from + 4 * count ≤ length (now file) ⌝ }
     ensures { λ r. ⌜ r ≡ everyFrom goodScope 0 (recordsFrom (scopeAt (now (file .entry))) 4 count from) ⌝ }
 {
     let mut good = true;
     let mut i = 0;
     while i < count {
-        good = good & scope_is_good(scope_at(file, from + 4 * i), i);
+        good = good & scope_is_good(scope_at(file, from + 4 * size(i)), ScopeId(i));
         i += 1;
     }
     good

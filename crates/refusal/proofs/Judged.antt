@@ -1,13 +1,16 @@
 -- What the passes over all records give, as the rows of the table say it. Assumes nothing.
 use mathlib.Core.Path.{_≡_, refl, sym, ap, _∙_}
-use mathlib.Core.Bool.{Bool, true, false, not, _&&_}
+use mathlib.Core.Bool.{Bool, true, false, not, _&&_, _||_, and-false, true≢false, false≢true}
 use mathlib.Core.List.{List, [], _∷_}
 use Prim.Native.Nat.{ℕ, _+_, _-_, _≤_, _<_}
 use native.Mathlib.Omega.{arith}
+use native.Mathlib.Nat.{add-zero}
+use borrow.Author.Tests.{not-false}
 use lib.ListN.{length, getD, drop, length-drop}
 use lib.Seq.{take-all}
 use lib.Dec.{eqb}
-use Rattle.records.specs.Records.{recordsFrom, everyFrom}
+use Rattle.records.specs.Records.{recordsFrom, every, everyFrom}
+use Rattle.records.specs.Node.{goodNode, badNodes}
 use Rattle.records.specs.File.{initializers}
 use Rattle.records.specs.Tree.{Trees, count, rowOf, closed}
 use Rattle.records.specs.Place.{rootsStand, allPlaced, expressions, badTrees}
@@ -17,7 +20,8 @@ use Rattle.records.specs.declared.layout.NodeRecord.{NodeRecord}
 use Rattle.records.specs.declared.layout.DeclaratorRecord.{DeclaratorRecord}
 use Rattle.records.specs.declared.layout.StatementRecord.{StatementRecord}
 use Rattle.records.proofs.Series.{records-length}
-use Rattle.records.proofs.Tests.{one-most}
+use Rattle.records.proofs.Tests.{one-most, all-three}
+use Rattle.refusal.specs.Scanning.{goodTrees, Taken}
 use Rattle.trees.specs.Stack.{entries, entryAt, rootStands}
 use Rattle.uses.specs.Tally.{Tally}
 use Rattle.trees.proofs.Rows.{entries-length, roots-entries}
@@ -69,6 +73,46 @@ unfolding badTrees
 trees-judged ds ss ns stack top trees good roots eg h same et er =
     rw (eg, er, row-roots stack top (rowOf ns) same h, row-count stack top (rowOf ns) same, et)
     (ap not (and-turned (closed ns) (allPlaced (rowOf ns)) (eqb (count (rowOf ns)) (initializers ds + expressions ss)) (rootsStand (rowOf ns))))
+
+unplaced : (c a r p : Bool) → (c && p) ≡ false → true ≡ not (c && a && r && p)
+unplaced false a r p e = refl
+unplaced true a r false e = sym (ap not (and-false (a && r)))
+unplaced true a r true e = absurd (true≢false e)
+
+-- rows 7 and 8
+module _ (names : List NameFacts) (ds : List DeclaratorRecord) (ss : List StatementRecord) (ns : List NodeRecord) (stack : List ℕ) (top trees : ℕ) (nodes good roots : Bool)
+    (en : nodes ≡ every (goodNode names) ns) (eg : good ≡ (every (goodNode names) ns && goodTrees ns)) (h : top ≤ length stack)
+    (same : good ≡ true → drop top stack ≡ entries (rowOf ns)) (et : trees ≡ initializers ds + expressions ss)
+    (er : roots ≡ everyFrom (λ k. rootStands) 0 (recordsFrom (entryAt stack) 1 (length stack - top) top)) where
+  rows-by : (g t : Bool) → every (goodNode names) ns ≡ g → goodTrees ns ≡ t
+      → (not nodes || not (good && eqb (length stack - top) trees && roots)) ≡ (badNodes names ns || badTrees ds ss ns)
+  unfolding badNodes badTrees
+  rows-by false t e d = rw (en, e)
+  rows-by true false e d = rw (en, eg, e, d) (unplaced (closed ns) _ _ (allPlaced (rowOf ns)) d)
+  rows-by true true e d =
+      rw (en, e)
+      (trees-judged ds ss ns stack top trees good roots (eg ∙ rw e) h (same (eg ∙ rw (e, d))) et er)
+
+  pub node-rows-judged : (not nodes || not (good && eqb (length stack - top) trees && roots)) ≡ (badNodes names ns || badTrees ds ss ns)
+  node-rows-judged = rows-by (every (goodNode names) ns) (goodTrees ns) refl refl
+
+-- a test among others that all hold
+pub first-of-three : (a b c : Bool) → not (a && b && c) ≡ false → a ≡ true
+first-of-three a b c e = all-three a b c (not-false (a && b && c) e) .0
+
+-- uses beside none
+module _ {ns : List NodeRecord} {reads₀ targets₀ stack reads targets : List ℕ} {top : ℕ} (t : Taken ns reads₀ targets₀ stack reads targets top) where
+  pub reads-alone : length reads ≡ length reads₀ → Tally (λ k. 0) reads₀ → Tally (λ k. readsOf k (rowOf ns)) reads
+  reads-alone l z k h = t .read k h ∙ rw (z k (omega arith)) (add-zero _)
+
+  pub targets-alone : length targets ≡ length targets₀ → Tally (λ k. 0) targets₀ → Tally (λ k. targetsOf k (rowOf ns)) targets
+  targets-alone l z k h = t .target k h ∙ rw (z k (omega arith)) (add-zero _)
+
+-- the second of two tests, where the first fails
+pub second-test : (a b c d : Bool) → (a || b) ≡ (c || d) → a ≡ c → a ≡ false → b ≡ d
+second-test true b c d e ac af = absurd (true≢false af)
+second-test false b true d e ac af = absurd (false≢true ac)
+second-test false b false d e ac af = e
 
 -- tests that agree on the records of a series
 pub every-same : {A : Type 0} (f g : ℕ → A → Bool) (i : ℕ) (xs : List A) → ((k : ℕ) (x : A) → k < i + length xs → f k x ≡ g k x)

@@ -1,5 +1,5 @@
 -- The laws that the proofs of several functions cite.
 pub mod Judged
 pub mod Limits
-pub mod Named
 pub mod Scans
+pub mod Header

@@ -1,149 +1,256 @@
--- One node more in the pass over the nodes. Assumes nothing.
-use mathlib.Core.Path.{_≡_, refl, sym, ap, subst, _∙_}
-use mathlib.Core.Bool.{Bool, true, not, _&&_, _||_}
-use mathlib.Core.List.{List}
-use Prim.Native.Nat.{ℕ, _+_, _-_, _*_, _≤_, _<_, min}
+-- One node more in the pass over the nodes, and where the pass ends. Assumes nothing.
+use mathlib.Core.Path.{_≡_, refl, sym, ap, ap₂, subst, _∙_}
+use mathlib.Core.Bool.{Bool, true, false, _&&_, and-true, and-false}
+use mathlib.Core.List.{List, [], _∷_, _++_}
+use mathlib.Core.Logic.{⊎-elim}
+use Prim.Native.Nat.{ℕ, _+_, _-_, _*_, _≤_, _<_}
 use native.Mathlib.Omega.{arith}
-use lib.ListN.{length, getD, drop, set, length-drop}
-use lib.Dec.{eqb}
-use Rattle.records.specs.Flags.{optional}
+use native.Mathlib.Nat.{eq-or-lt-of-le}
+use lib.ListN.{length, getD, drop, set, length-drop, List·getD-eq-default}
+use lib.Seq.{getD-set-same, getD-set-other}
+use lib.Dec.{eqb, ltb, leb}
+use borrow.Author.Tests.{leb-true, ltb-true, ltb-false}
 use Rattle.records.specs.Record.{nameAt, nodeAt}
 use Rattle.records.specs.Records.{recordsFrom, every, everyFrom}
 use Rattle.records.specs.File.{one, nodesStart, namesOf, nodesOf}
-use Rattle.records.specs.Node.{goodNode}
-use Rattle.records.specs.Tree.{nodeOf, rowOf, closed}
-use Rattle.records.specs.Place.{allPlaced}
-use Rattle.records.specs.Count.{targetName, readsOf, targetsOf}
+use Rattle.records.specs.Flags.{compound}
+use Rattle.records.specs.Node.{isNamed, goodNode}
+use Rattle.records.specs.Tree.{nodeOf, rowOf}
+use Rattle.records.specs.Count.{targetName}
 use Rattle.records.specs.declared.layout.Header.{Header}
 use Rattle.records.specs.declared.layout.NameFacts.{NameFacts}
 use Rattle.records.specs.declared.layout.NodeRecord.{NodeRecord}
-use Rattle.records.proofs.Tests.{every-cons}
+use Rattle.records.proofs.Tests.{and-left, one-most, every-cons, every-append}
 use Rattle.records.proofs.Behind.{one-more, all-left}
-use Rattle.records.proofs.Names.{node-judged}
-use Rattle.trees.specs.Stack.{childrenStand, nodeEntry, entry, entries, entryLoose}
+use Rattle.records.proofs.Judged.{good-low, good-unnamed, good-compound}
+use Rattle.roundtrip.proofs.Series.{recordsFrom-add}
+use Rattle.trees.specs.Stack.{childrenStand, nodeEntry, entry, entries, Low}
+use Rattle.trees.proofs.Rows.{grown-good}
 use Rattle.trees.proofs.Growth.{growing-none, growing-more, growing-all, growing-good}
 use Rattle.uses.specs.Tally.{Tally, recordRead}
 use Rattle.uses.proofs.Counting.{counting-none, counting-more, reads-low, targets-low, counted-reads, counted-targets}
 use Rattle.refusal.specs.Passing.{HeaderPasses}
-use Rattle.rows.specs.Rows.{Sets, Fits, ChildrenFit}
-use Rattle.refusal.proofs.Limits.{length-said, nodes-fit}
-use Rattle.rows.proofs.Rows.{row-of}
-use Rattle.refusal.proofs.Named.{known-target, plain-read, unnamed-read, unnamed-target}
-use Rattle.rows.proofs.Standing.{leaf-stands, leaf-entry, row-stands, row-entry}
-use Rattle.refusal.specs.Scanning.{Scanning, targetBehind}
+use Rattle.refusal.specs.Scanning.{firstNodes, goodNodes, goodTrees, Few, Scanning, Taken}
 use Rattle.refusal.specs.declared.scan.Scan.{Scan}
+use Rattle.refusal.proofs.Limits.{length-said, nodes-fit}
 
 -- no node is taken yet
-pub scanned-none : {bs : List ℕ} {h : Header} {stack reads targets : List ℕ} (top left : ℕ) → top ≡ length stack → left ≡ h .nodes
-    → Tally (λ k. 0) reads → Tally (λ k. 0) targets
-    → Scanning bs h stack reads targets (record { nodes = true; trees = true; top = top; left = left })
+pub scanned-none : {bs : List ℕ} {names from n : ℕ} {stack reads targets : List ℕ} → Scanning bs names from n reads targets stack reads targets (length stack) n
 unfolding recordsFrom everyFrom
-scanned-none {h = h} top left et el tr tt' = let none : h .nodes - h .nodes ≡ 0 = omega arith in
-    rw el (record { grown = growing-none top et; counted = known-target _ h (counting-none tr tt'); judged = rw none })
+scanned-none {n = n} {stack} = let none : n - n ≡ 0 = omega arith in
+    record {
+      grown = growing-none (length stack) refl;
+      counted = counting-none;
+      judged = rw none;
+      low = λ k h. rw (List·getD-eq-default stack 0 h) (omega arith);
+    }
 
-module _ {bs : List ℕ} {h : Header} {stack reads targets : List ℕ} {s : Scan} where
-  pub scanned-more : (reads' targets' : List ℕ) (x : NodeRecord) (good stands : Bool) (e t name next j : ℕ)
-      → Scanning bs h stack reads targets s → s .left ≡ j + 1 → h .nodes ≤ length stack → x ≡ nodeAt bs (nodesStart h + 12 * j)
-      → good ≡ goodNode (recordsFrom (nameAt bs) 12 (h .names) 24) x
-      → stands ≡ childrenStand x (drop (s .top) stack) → e ≡ nodeEntry x (drop (s .top) stack) → t + 1 ≡ s .top + min (x .children) (length stack - s .top)
-      → name ≡ recordRead x (targetBehind bs h (s .left)) → next ≡ targetName (nodeOf x) → length reads' ≡ length reads → length targets' ≡ length targets
-      → Tally (λ k. one (eqb name k) + getD reads k 0) reads' → Tally (λ k. one (eqb next k) + getD targets k 0) targets'
-      → Scanning bs h (set stack t e) reads' targets' (record { nodes = good && s .nodes; trees = stands && s .trees; top = t; left = j })
-  scanned-more reads' targets' x good stands e t name next j p ei long ex eg es ee et en ea lr lt tr tt' = record {
-    grown = growing-more x stands e t j (p .grown) ei long ex es ee et;
-    counted = known-target bs h (counting-more reads' targets' x name next j (p .counted) ei ex en ea lr lt tr tt');
-    judged =
-        rw (one-more (nodeAt bs) 12 (h .nodes) (nodesStart h) (s .left) j ei (p .grown .within), ← ex, eg, p .judged)
-        (sym (every-cons (goodNode (recordsFrom (nameAt bs) 12 (h .names) 24)) x _));
-  }
+-- the entry of a node of a good kind is a number of a set
+entry-low : (k : ℕ) (b : Bool) → k ≤ 30 → entry k b < 64
+unfolding entry
+entry-low k b h = omega (arith, one-most b)
 
-  -- a node that fits its row
-  module _ (reads' targets' : List ℕ) (x : NodeRecord) (row t j : ℕ) (p : Scanning bs h stack reads targets s) (ei : s .left ≡ j + 1)
-      (long : h .nodes ≤ length stack) (ex : x ≡ nodeAt bs (nodesStart h + 12 * j)) (f : Fits (h .names) x row)
-      (lr : length reads' ≡ length reads) (lt : length targets' ≡ length targets) where
-    scanned-fit : (e name next : ℕ) → true ≡ childrenStand x (drop (s .top) stack) → e ≡ nodeEntry x (drop (s .top) stack)
-        → t + 1 ≡ s .top + min (x .children) (length stack - s .top)
-        → name ≡ recordRead x (targetBehind bs h (s .left)) → next ≡ targetName (nodeOf x)
-        → Tally (λ k. one (eqb name k) + getD reads k 0) reads' → Tally (λ k. one (eqb next k) + getD targets k 0) targets'
-        → Scanning bs h (set stack t e) reads' targets' (record { nodes = s .nodes; trees = s .trees; top = t; left = j })
-    scanned-fit e name next es ee et en ea tr tt' =
-        scanned-more reads' targets' x true true e t name next j p ei long ex (node-judged bs (h .names) true x refl (sym (f .good _))) es ee et en ea lr lt tr tt'
+low-entry : (x : NodeRecord) (es : List ℕ) → x .kind ≤ 30 → nodeEntry x es < 64
+unfolding nodeEntry
+low-entry x es h = entry-low (x .kind) _ h
 
-    pub scanned-leaf : (w : ℕ) → x .children ≡ 0 → w ≡ x .kind → t + 1 ≡ s .top
-        → Tally (λ k. one (eqb (recordRead x 65535) k) + getD reads k 0) reads' → Tally (λ k. one (eqb (targetName (nodeOf x)) k) + getD targets k 0) targets'
-        → Scanning bs h (set stack t (2 * w)) reads' targets' (record { nodes = s .nodes; trees = s .trees; top = t; left = j })
-    scanned-leaf w e ew et = scanned-fit (2 * w) (recordRead x 65535) (targetName (nodeOf x)) (leaf-stands x (drop (s .top) stack) e)
-        (ap (λ (k : ℕ). 2 * k) ew ∙ leaf-entry x (drop (s .top) stack) e (f .linked e)) (omega (arith, et, e))
-        (plain-read x 65535 (targetBehind bs h (s .left)) (row-of _ _ row (f .has) .plain)) refl
+low-set : (stack : List ℕ) (top t e : ℕ) → Low stack top → e < 64 → t < length stack → top ≤ t + 1 → Low (set stack t e) t
+low-set stack top t e low le lt h k hk =
+    ⊎-elim
+    (λ (q : t ≡ k). rw (← q, getD-set-same stack t e 0 lt) le)
+    (λ (q : t < k). rw (getD-set-other stack t k e 0 (λ z. omega arith)) (low k (omega arith)))
+    (eq-or-lt-of-le hk)
 
-    pub scanned-parent : {first later : List ℕ} → Sets first later → (children e : ℕ) → children ≡ x .children → (children ≡ 0 → ⊥)
-        → ChildrenFit (getD first row 0) (getD later row 0) children (drop (s .top) stack)
-        → e ≡ entry (x .kind) (not (eqb (x .kind) 13) && (optional (x .flags) || entryLoose (getD stack (s .top) 0))) → t + 1 ≡ s .top + children
-        → Tally (λ k. one (eqb 65535 k) + getD reads k 0) reads' → Tally (λ k. one (eqb 65535 k) + getD targets k 0) targets'
-        → Scanning bs h (set stack t e) reads' targets' (record { nodes = s .nodes; trees = s .trees; top = t; left = j })
-    scanned-parent sets children e ec some c ee et =
-        let named = f .named (omega arith) in
-        scanned-fit e 65535 65535 (row-stands sets x row (f .below) (f .has) children ec (drop (s .top) stack) c)
-        (ee ∙ row-entry sets x row (f .below) (f .has) children ec stack (s .top) (omega arith) (omega (arith, c .0, length-drop (s .top) stack)) c)
-        (omega (arith, et, ec, c .0, length-drop (s .top) stack))
-        (sym (unnamed-read x (targetBehind bs h (s .left)) named (row-of _ _ row (f .has) .plain)))
-        (sym (unnamed-target x named))
+-- records before trees that don't close or stand
+trees-before : (ns ms : List NodeRecord) → goodTrees ms ≡ false → goodTrees (ns ++ ms) ≡ false
+trees-before [] ms e = e
+trees-before (y ∷ ns) ms e =
+    sym (grown-good y (ns ++ ms))
+    ∙ ap (λ (b : Bool). childrenStand y (entries (rowOf (ns ++ ms))) && b) (trees-before ns ms e)
+    ∙ and-false (childrenStand y (entries (rowOf (ns ++ ms))))
 
-  -- no count reaches the number of nodes
-  pub reads-few : HeaderPasses bs h → Scanning bs h stack reads targets s → (k : ℕ) → getD reads k 0 < 65535
-  reads-few hp p k = omega (arith, reads-low (p .counted) k, nodes-fit h (hp .limits))
+module _ {bs : List ℕ} {names from n : ℕ} {reads₀ targets₀ stack reads targets : List ℕ} {top i : ℕ} (p : Scanning bs names from n reads₀ targets₀ stack reads targets top i) where
+  -- no count grows beyond a u16
+  pub reads-few : Few reads₀ n → Few reads i
+  reads-few f k = omega (arith, f k, reads-low (p .counted) k, p .counted .within)
 
-  pub targets-few : HeaderPasses bs h → Scanning bs h stack reads targets s → (k : ℕ) → getD targets k 0 < 65535
-  targets-few hp p k = omega (arith, targets-low (p .counted) k, nodes-fit h (hp .limits))
+  pub targets-few : Few targets₀ n → Few targets i
+  targets-few f k = omega (arith, f k, targets-low (p .counted) k, p .counted .within)
 
-  -- the stack has an entry for each node that is left
-  pub place-left : Scanning bs h stack reads targets s → h .nodes ≤ length stack → s .left ≤ s .top
-  place-left p long = omega (arith, p .grown .room, long)
+  -- the node before those that are taken
+  module _ (x : NodeRecord) (j : ℕ) (ei : i ≡ j + 1) (ex : x ≡ nodeAt bs (from + 12 * j)) where
+    nodes-more : goodNodes bs names (recordsFrom (nodeAt bs) 12 (n - j) (from + 12 * j)) ≡ goodNode (recordsFrom (nameAt bs) 12 names 24) x
+    nodes-more =
+        rw (one-more (nodeAt bs) 12 n from i j ei (p .counted .within), ← ex)
+        (every-cons (goodNode (recordsFrom (nameAt bs) 12 names 24)) x _ ∙ rw (p .judged) (and-true _))
 
--- as many entries as are taken are on the stack
-pub fit-room : (stack : List ℕ) (top many : ℕ) → top ≤ length stack → many ≤ length (drop top stack) → top + many ≤ length stack
-fit-room stack top many h f = omega (arith, h, f, length-drop top stack)
+    first-count : (ns : List NodeRecord → Bool) → ns (firstNodes bs from n) ≡ ns (firstNodes bs from j ++ recordsFrom (nodeAt bs) 12 (n - j) (from + 12 * j))
+    first-count ns = let all : n ≡ j + (n - j) = omega (arith, p .counted .within) in
+        ap (λ (m : ℕ). ns (firstNodes bs from m)) all ∙ ap ns (recordsFrom-add (nodeAt bs) 12 j (n - j) from)
 
--- a loop that takes nodes: what it knows, and that none is added
-pub record Going (bs : List ℕ) (h : Header) (stack₀ reads₀ targets₀ stack reads targets : List ℕ) (most : ℕ) (s : Scan) : Type 0 where
-  pub scan : Scanning bs h stack reads targets s
-  pub less : s .left ≤ most
+    nodes-split : goodNodes bs names (firstNodes bs from n) ≡ (goodNodes bs names (firstNodes bs from j) && goodNode (recordsFrom (nameAt bs) 12 names 24) x)
+    nodes-split =
+        first-count (goodNodes bs names)
+        ∙ every-append (goodNode (recordsFrom (nameAt bs) 12 names 24)) (firstNodes bs from j) _
+        ∙ ap (λ (b : Bool). goodNodes bs names (firstNodes bs from j) && b) nodes-more
+
+    -- one that is bad by itself
+    pub ends-bad : goodNode (recordsFrom (nameAt bs) 12 names 24) x ≡ false → false ≡ goodNodes bs names (firstNodes bs from n)
+    ends-bad e = sym (nodes-split ∙ rw e (and-false (goodNodes bs names (firstNodes bs from j))))
+
+    pub ends-untaken : goodNode (recordsFrom (nameAt bs) 12 names 24) x ≡ false → false ≡ (goodNodes bs names (firstNodes bs from n) && goodTrees (firstNodes bs from n))
+    ends-untaken e = ap (λ (b : Bool). b && goodTrees (firstNodes bs from n)) (ends-bad e)
+
+    -- one that is good
+    module _ (good : goodNode (recordsFrom (nameAt bs) 12 names 24) x ≡ true) where
+      pub kind-low : x .kind ≤ 30
+      unfolding goodNode
+      kind-low = good-low _ _ x good
+
+      pub parent-unnamed : 0 < x .children → isNamed (x .kind) ≡ false
+      unfolding goodNode
+      parent-unnamed = good-unnamed _ _ x good
+
+      pub compound-kind : compound (x .flags) ≡ true → x .kind ≡ 20
+      unfolding goodNode
+      compound-kind = good-compound _ _ x good
+
+      pub ends-good : goodNodes bs names (firstNodes bs from j) ≡ goodNodes bs names (firstNodes bs from n)
+      ends-good = sym (nodes-split ∙ rw good (and-true (goodNodes bs names (firstNodes bs from j))))
+
+      -- its children can't stand
+      trees-more : childrenStand x (drop top stack) ≡ false → goodTrees (recordsFrom (nodeAt bs) 12 (n - j) (from + 12 * j)) ≡ false
+      trees-more e =
+          rw (one-more (nodeAt bs) 12 n from i j ei (p .counted .within), ← ex)
+          (sym (grown-good x (recordsFrom (nodeAt bs) 12 (n - i) (from + 12 * i))) ∙ rw (← p .grown .same, e))
+
+      pub ends-loose : childrenStand x (drop top stack) ≡ false → false ≡ (goodNodes bs names (firstNodes bs from n) && goodTrees (firstNodes bs from n))
+      ends-loose e =
+          sym (ap (λ (b : Bool). goodNodes bs names (firstNodes bs from n) && b) (first-count goodTrees ∙ trees-before (firstNodes bs from j) _ (trees-more e)) ∙ and-false (goodNodes bs names (firstNodes bs from n)))
+
+      -- its children stand
+      module _ (stands : childrenStand x (drop top stack) ≡ true) where
+        pub found : top + x .children ≤ length stack
+        unfolding childrenStand
+        found =
+            let l = leb-true (x .children) (length (drop top stack)) (and-left (leb (x .children) (length (drop top stack))) _ stands) in
+            omega (arith, l, length-drop top stack, p .grown .inside)
+
+        pub behind : 0 < x .children → i < n
+        behind s = omega (arith, s, found, p .grown .room)
+
+        pub scanned-more : (reads' targets' : List ℕ) (e t : ℕ) → n ≤ length stack → e ≡ nodeEntry x (drop top stack) → t + 1 ≡ top + x .children
+            → length reads' ≡ length reads → length targets' ≡ length targets
+            → Tally (λ k. one (eqb (recordRead x (targetName (nodeOf (nodeAt bs (from + 12 * j + 12))))) k) + getD reads k 0) reads'
+            → Tally (λ k. one (eqb (targetName (nodeOf x)) k) + getD targets k 0) targets'
+            → Scanning bs names from n reads₀ targets₀ (set stack t e) reads' targets' t j
+        scanned-more reads' targets' e t long ee et lr lt tr tt' =
+            let at : from + 12 * j + 12 ≡ from + 12 * i = omega (arith, ei) in
+            record {
+              grown = growing-more x e t j (p .grown) ei long ex stands ee (omega (arith, et, found));
+              counted = counting-more (p .counted) reads' targets' x j ei ex behind lr lt (rw at at tr) tt';
+              judged = nodes-more ∙ good;
+              low = low-set stack top t e (p .low) (rw ee (low-entry x (drop top stack) kind-low)) (omega (arith, et, found, long, p .grown .room, ei)) (omega (arith, et));
+            }
+
+  -- all nodes are taken
+  module _ (e : i ≤ 0) where
+    all-good : goodNodes bs names (firstNodes bs from n) ≡ true
+    all-good = sym (ap (goodNodes bs names) (all-left (nodeAt bs) 12 n from i e)) ∙ p .judged
+
+    pub taken-nodes : goodNodes bs names (firstNodes bs from i) ≡ goodNodes bs names (firstNodes bs from n)
+    unfolding recordsFrom everyFrom
+    taken-nodes = let none : i ≡ 0 = omega arith in rw none (sym all-good)
+
+    pub taken-trees : true ≡ (goodNodes bs names (firstNodes bs from n) && goodTrees (firstNodes bs from n))
+    taken-trees = sym (rw all-good (growing-good (p .grown) e))
+
+    pub taken-all : Taken (firstNodes bs from n) reads₀ targets₀ stack reads targets top
+    taken-all = record { entered = growing-all (p .grown) e; read = counted-reads (p .counted) e; target = counted-targets (p .counted) e }
+
+-- a loop that takes nodes: what it knows, and the lengths of the slices that it writes to
+pub record Going (bs : List ℕ) (names from n : ℕ) (stack₀ reads₀ targets₀ stack reads targets : List ℕ) (top i : ℕ) : Type 0 where
+  pub scan : Scanning bs names from n reads₀ targets₀ stack reads targets top i
   pub stacked : length stack ≡ length stack₀
-  pub read : length reads ≡ length reads₀
+  pub counted : length reads ≡ length reads₀
   pub aimed : length targets ≡ length targets₀
 
 -- the records of a file whose header passes
 module _ {bs : List ℕ} {h : Header} (hp : HeaderPasses bs h) where
-  pub nodes-inside : (left : ℕ) → left ≤ h .nodes → nodesStart h + 12 * left ≤ length bs
-  nodes-inside left l = omega (arith, l, length-said bs h (hp .measured))
+  pub nodes-inside : nodesStart h + 12 * h .nodes ≤ length bs
+  nodes-inside = omega (arith, length-said bs h (hp .measured))
 
   pub names-inside : 24 + 12 * h .names ≤ length bs
   names-inside = omega (arith, length-said bs h (hp .measured))
 
--- all nodes are taken
-module _ {bs : List ℕ} {h : Header} {stack reads targets : List ℕ} {s : Scan} (hp : HeaderPasses bs h) (p : Scanning bs h stack reads targets s) (e : s .left ≤ 0) where
-  same-nodes : recordsFrom (nodeAt bs) 12 (h .nodes) (nodesStart h) ≡ nodesOf bs
+  pub same-nodes : firstNodes bs (nodesStart h) (h .nodes) ≡ nodesOf bs
   unfolding nodesOf
   same-nodes = rw (hp .is)
 
-  same-names : recordsFrom (nameAt bs) 12 (h .names) 24 ≡ namesOf bs
+  pub same-names : recordsFrom (nameAt bs) 12 (h .names) 24 ≡ namesOf bs
   unfolding namesOf
   same-names = rw (hp .is)
 
-  pub scanned-nodes : s .nodes ≡ every (goodNode (namesOf bs)) (nodesOf bs)
-  scanned-nodes =
-      p .judged
-      ∙ ap (every (goodNode (recordsFrom (nameAt bs) 12 (h .names) 24))) (all-left (nodeAt bs) 12 (h .nodes) (nodesStart h) (s .left) e ∙ same-nodes)
-      ∙ ap (λ (ns : List NameFacts). every (goodNode ns) (nodesOf bs)) same-names
+  pub same-good : goodNodes bs (h .names) (firstNodes bs (nodesStart h) (h .nodes)) ≡ every (goodNode (namesOf bs)) (nodesOf bs)
+  same-good = ap (goodNodes bs (h .names)) same-nodes ∙ ap (λ (ns : List NameFacts). every (goodNode ns) (nodesOf bs)) same-names
 
-  pub scanned-trees : s .trees ≡ (closed (nodesOf bs) && allPlaced (rowOf (nodesOf bs)))
-  scanned-trees = growing-good (p .grown) e ∙ ap (λ (ns : List NodeRecord). closed ns && allPlaced (rowOf ns)) same-nodes
+  -- no name is used yet
+  pub none-used : (xs : List ℕ) → Tally (λ k. 0) xs → Few xs (h .nodes)
+  none-used xs t k = few-at (ltb k (length xs)) refl where
+    few-at : (b : Bool) → ltb k (length xs) ≡ b → getD xs k 0 + h .nodes ≤ 65535
+    few-at true e = rw (t k (ltb-true k (length xs) e)) (omega (arith, nodes-fit h (hp .limits)))
+    few-at false e = rw (List·getD-eq-default xs 0 (ltb-false k (length xs) e)) (omega (arith, nodes-fit h (hp .limits)))
 
-  pub scanned-stack : drop (s .top) stack ≡ entries (rowOf (nodesOf bs))
-  scanned-stack = growing-all (p .grown) e ∙ ap (λ (ns : List NodeRecord). entries (rowOf ns)) same-nodes
+-- a run over all nodes
+module _ {bs : List ℕ} {h : Header} (hp : HeaderPasses bs h) (from count : ℕ) (ef : from ≡ nodesStart h) (ec : count ≡ h .nodes) where
+  whole : firstNodes bs from count ≡ nodesOf bs
+  whole = rw (ef, ec) (same-nodes hp)
 
-  pub scanned-reads : Tally (λ k. readsOf k (rowOf (nodesOf bs))) reads
-  scanned-reads = subst (λ (ns : List NodeRecord). Tally (λ k. readsOf k (rowOf ns)) reads) same-nodes (counted-reads (p .counted) e)
+  whole-judged : goodNodes bs (h .names) (firstNodes bs from count) ≡ every (goodNode (namesOf bs)) (nodesOf bs)
+  whole-judged = rw (ef, ec) (same-good hp)
 
-  pub scanned-targets : Tally (λ k. targetsOf k (rowOf (nodesOf bs))) targets
-  scanned-targets = subst (λ (ns : List NodeRecord). Tally (λ k. targetsOf k (rowOf ns)) targets) same-nodes (counted-targets (p .counted) e)
+  pub whole-taken : {reads₀ targets₀ stack reads targets : List ℕ} {top : ℕ} → Taken (firstNodes bs from count) reads₀ targets₀ stack reads targets top
+      → Taken (nodesOf bs) reads₀ targets₀ stack reads targets top
+  whole-taken {reads₀} {targets₀} {stack} {reads} {targets} {top} t = subst (λ (ns : List NodeRecord). Taken ns reads₀ targets₀ stack reads targets top) whole t
+
+  pub whole-trees : (b : Bool) → b ≡ (goodNodes bs (h .names) (firstNodes bs from count) && goodTrees (firstNodes bs from count))
+      → b ≡ (every (goodNode (namesOf bs)) (nodesOf bs) && goodTrees (nodesOf bs))
+  whole-trees b e = e ∙ ap₂ _&&_ whole-judged (ap goodTrees whole)
+
+  module _ (s : Scan) (en : (s .«nodes_good» && goodNodes bs (h .names) (firstNodes bs from (s .«nodes_left»))) ≡ goodNodes bs (h .names) (firstNodes bs from count)) where
+    pub whole-nodes : s .«trees_taken» ≡ (goodNodes bs (h .names) (firstNodes bs from count) && goodTrees (firstNodes bs from count)) → s .«trees_taken» ≡ true
+        → s .«nodes_good» ≡ every (goodNode (namesOf bs)) (nodesOf bs)
+    whole-nodes et e =
+        let g = and-left (goodNodes bs (h .names) (firstNodes bs from count)) (goodTrees (firstNodes bs from count)) (sym et ∙ e) in
+        and-left (s .«nodes_good») (goodNodes bs (h .names) (firstNodes bs from (s .«nodes_left»))) (en ∙ g) ∙ sym (sym whole-judged ∙ g)
+
+    -- a node was bad, or the nodes before those that were taken decide
+    pub whole-bad : s .«nodes_good» ≡ false → s .«nodes_good» ≡ every (goodNode (namesOf bs)) (nodesOf bs)
+    whole-bad e = e ∙ sym (ap (λ (b : Bool). b && goodNodes bs (h .names) (firstNodes bs from (s .«nodes_left»))) e) ∙ en ∙ whole-judged
+
+    pub whole-asked : (b : Bool) → s .«nodes_good» ≡ true → b ≡ goodNodes bs (h .names) (firstNodes bs from (s .«nodes_left»)) → b ≡ every (goodNode (namesOf bs)) (nodesOf bs)
+    whole-asked b e eb = eb ∙ sym (ap (λ (b : Bool). b && goodNodes bs (h .names) (firstNodes bs from (s .«nodes_left»))) e) ∙ en ∙ whole-judged
+
+-- a loop that asks nodes for row 7 in runs
+pub record Asking (bs : List ℕ) (names from n : ℕ) (stack₀ reads₀ targets₀ stack reads targets : List ℕ) (left : ℕ) : Type 0 where
+  pub nodes : goodNodes bs names (firstNodes bs from left) ≡ goodNodes bs names (firstNodes bs from n)
+  pub within : left ≤ n
+  pub reads-few : Few reads left
+  pub targets-few : Few targets left
+  pub stacked : length stack ≡ length stack₀
+  pub counted : length reads ≡ length reads₀
+  pub aimed : length targets ≡ length targets₀
+
+module _ (bs : List ℕ) (names from n left : ℕ) (b : Bool) (more : ℕ) (en : goodNodes bs names (firstNodes bs from left) ≡ goodNodes bs names (firstNodes bs from n)) where
+  -- one run more
+  pub asked-more : b ≡ true → (b && goodNodes bs names (firstNodes bs from more)) ≡ goodNodes bs names (firstNodes bs from left)
+      → goodNodes bs names (firstNodes bs from more) ≡ goodNodes bs names (firstNodes bs from n)
+  asked-more e er = sym (ap (λ (x : Bool). x && goodNodes bs names (firstNodes bs from more)) e) ∙ er ∙ en
+
+  pub asked-bad : b ≡ false → (b && goodNodes bs names (firstNodes bs from more)) ≡ goodNodes bs names (firstNodes bs from left)
+      → false ≡ goodNodes bs names (firstNodes bs from n)
+  asked-bad e er = sym (ap (λ (x : Bool). x && goodNodes bs names (firstNodes bs from more)) e) ∙ er ∙ en
+
+  pub asked-all : left ≤ 0 → true ≡ goodNodes bs names (firstNodes bs from n)
+  unfolding recordsFrom everyFrom
+  asked-all h = let none : left ≡ 0 = omega arith in sym (ap (λ (m : ℕ). goodNodes bs names (firstNodes bs from m)) none) ∙ en

@@ -1,23 +1,46 @@
 -- What the pass over the nodes, from the last to the first, knows of those that it has taken.
-use Prim.Native.Nat.{ℕ, _+_, _-_, _*_}
+use Prim.Native.Nat.{ℕ, _+_, _-_, _*_, _≤_}
 use mathlib.Core.Path.{_≡_}
+use mathlib.Core.Bool.{Bool, true, _&&_}
 use mathlib.Core.List.{List}
+use lib.ListN.{getD, drop}
 use Rattle.records.specs.Record.{nameAt, nodeAt}
 use Rattle.records.specs.Records.{recordsFrom, every}
-use Rattle.records.specs.File.{nodesStart}
 use Rattle.records.specs.Node.{goodNode}
-use Rattle.records.specs.declared.layout.Header.{Header}
+use Rattle.records.specs.Tree.{rowOf, closed}
+use Rattle.records.specs.Place.{allPlaced}
+use Rattle.records.specs.Count.{readsOf, targetsOf}
+use Rattle.records.specs.declared.layout.NodeRecord.{NodeRecord}
+use Rattle.trees.specs.Stack.{entries, Low}
 use Rattle.trees.specs.Growing.{Growing}
-use Rattle.uses.specs.Tally.{headTarget}
+use Rattle.uses.specs.Tally.{Tally}
 use Rattle.uses.specs.Counting.{Counting}
-use Rattle.refusal.specs.declared.scan.Scan.{Scan}
 
--- the name that the first of the nodes behind those that are left has as a target, else 65535
-abbrev pub targetBehind : List ℕ → Header → ℕ → ℕ
-targetBehind bs h left = headTarget (recordsFrom (nodeAt bs) 12 (h .nodes - left) (nodesStart h + 12 * left))
+-- the first `count` nodes of a file, whose nodes begin at `from`
+abbrev pub firstNodes : List ℕ → ℕ → ℕ → List NodeRecord
+firstNodes bs from count = recordsFrom (nodeAt bs) 12 count from
 
--- rows 8, 10 and 7, of the nodes behind those that are left
-pub record Scanning (bs : List ℕ) (h : Header) (stack reads targets : List ℕ) (s : Scan) : Type 0 where
-  pub grown : Growing (nodeAt bs) 12 (h .nodes) (nodesStart h) stack (s .trees) (s .top) (s .left)
-  pub counted : Counting (nodeAt bs) 12 (h .nodes) (nodesStart h) reads targets (targetBehind bs h (s .left)) (s .left)
-  pub judged : s .nodes ≡ every (goodNode (recordsFrom (nameAt bs) 12 (h .names) 24)) (recordsFrom (nodeAt bs) 12 (h .nodes - s .left) (nodesStart h + 12 * s .left))
+-- so many names stand in a file: row 7 refuses none of these nodes
+abbrev pub goodNodes : List ℕ → ℕ → List NodeRecord → Bool
+goodNodes bs names ns = every (goodNode (recordsFrom (nameAt bs) 12 names 24)) ns
+
+-- row 8, but for the statements: trees that close, with children where they may stand
+abbrev pub goodTrees : List NodeRecord → Bool
+goodTrees ns = closed ns && allPlaced (rowOf ns)
+
+-- counts to which so many may be added
+abbrev pub Few : List ℕ → ℕ → Type 0
+Few xs more = (k : ℕ) → getD xs k 0 + more ≤ 65535
+
+-- rows 8, 10 and 7 of the first n nodes, but for the i that are left: none is refused
+pub record Scanning (bs : List ℕ) (names from n : ℕ) (reads₀ targets₀ stack reads targets : List ℕ) (top i : ℕ) : Type 0 where
+  pub grown : Growing (nodeAt bs) 12 n from stack top i
+  pub counted : Counting (nodeAt bs) 12 n from reads₀ targets₀ reads targets i
+  pub judged : goodNodes bs names (recordsFrom (nodeAt bs) 12 (n - i) (from + 12 * i)) ≡ true
+  pub low : Low stack top
+
+-- the entries of the trees of nodes stand on a stack, and the uses of names in them are added to the arrays
+pub record Taken (ns : List NodeRecord) (reads₀ targets₀ stack reads targets : List ℕ) (top : ℕ) : Type 0 where
+  pub entered : drop top stack ≡ entries (rowOf ns)
+  pub read : Tally (λ k. readsOf k (rowOf ns) + getD reads₀ k 0) reads
+  pub target : Tally (λ k. targetsOf k (rowOf ns) + getD targets₀ k 0) targets

@@ -1,12 +1,11 @@
 // The refusal table, in its order: `refusal`, the public call, tests the rows of the header by `header_refusal`, and the others
 // by `check`.
 ghost use mathlib.Core.Path.{_≡_};
-ghost use Prim.Native.Nat.{ℕ, _≤_, _<_};
+ghost use Prim.Native.Nat.{_≤_, _<_};
 ghost use lib.ListN.{length};
-ghost use Rattle.records.specs.Record.{headerOf};
 ghost use Rattle.records.specs.Refusal.{refusal as refusalOf};
 ghost use Rattle.refusal.specs.Number.{number};
-ghost use Rattle.refusal.specs.Passing.{HeaderPasses};
+ghost use Rattle.refusal.specs.Passing.{headerRefusal, HeaderPasses};
 ghost use Rattle.uses.specs.Tally.{Tally};
 use crate::answer::Refusal;
 use crate::answer::number_of;
@@ -42,6 +41,7 @@ fn check(
     requires { ⌜ Tally (λ k. 0) (now reads) ⌝ }
     requires { ⌜ Tally (λ k. 0) (now targets) ⌝ }
     requires { ⌜ Tally (λ k. 0) (now seen) ⌝ }
+    requires { ⌜ (length (now reads) ≤ 65535) × (length (now targets) ≤ 65535) ⌝ }
     ensures { λ r. ⌜ number r ≡ refusalOf (now (file .entry)) room ⌝ }
 {
     let bad = facts_are_bad(file, h);
@@ -99,8 +99,7 @@ pub fn check_records(file: &[u8], h: Header, room: usize) -> Refusal
 
 // Rows 1 to 4, which no room changes: the row of the header that refuses a file, or `Accepted` where none does. Any bytes.
 pub fn header_refusal(file: &[u8]) -> Refusal
-    ensures { λ r. ⌜ (number r ≡ 0 → HeaderPasses (now (file .entry)) (headerOf (now (file .entry)))) ⌝ }
-    ensures { λ r. ⌜ (0 < number r → (room : ℕ) → number r ≡ refusalOf (now (file .entry)) room) ⌝ }
+    ensures { λ r. ⌜ number r ≡ headerRefusal (now (file .entry)) ⌝ }
 {
     if not_a_script(file) {
         return Refusal::NotAScript;

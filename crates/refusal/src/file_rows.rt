@@ -1,6 +1,6 @@
 // Rows 5 to 11 of the refusal table, each over all the records that it is about.
 ghost use mathlib.Core.Path.{_≡_};
-ghost use mathlib.Core.Bool.{true};
+ghost use mathlib.Core.Bool.{true, false, _||_};
 ghost use Prim.Native.Nat.{_+_, _≤_, _<_};
 ghost use lib.ListN.{length};
 ghost use lib.Dec.{ltb};
@@ -37,7 +37,7 @@ pub fn facts_are_bad(file: &[u8], h: Header) -> bool
 {
     let parts = part_offsets(h);
     let good_names = names_are_good(file, parts[0], size(h.names), h.scopes);
-    let good_scopes = scopes_are_good(file, parts[1], size(h.scopes));
+    let good_scopes = scopes_are_good(file, parts[1], h.scopes);
     let good_frames = frames_are_good(file, parts[2], size(h.frames), h.scopes);
     !(good_names & good_scopes & good_frames)
 }
@@ -70,7 +70,8 @@ pub struct NodeRows {
     pub bad_trees: bool,
 }
 
-// Rows 7 and 8, where the declarators and statements have so many trees, and the uses of each name for row 10.
+// Rows 7 and 8, where the declarators and statements have so many trees: whether row 7 refuses the nodes, and whether row 8 does
+// where row 7 does not; and the uses of each name for row 10 where neither does.
 pub fn node_rows(
     file: &[u8],
     h: Header,
@@ -82,19 +83,20 @@ pub fn node_rows(
     requires { ⌜ HeaderPasses (now file) h ⌝ }
     requires { ⌜ trees ≡ initializers (declaratorsOf (now file)) + expressions (statementsOf (now file)) ⌝ }
     requires { ⌜ h .nodes ≤ length (now stack) ⌝ }
+    requires { ⌜ (length (now reads) ≤ 65535) × (length (now targets) ≤ 65535) ⌝ }
     requires { ⌜ Tally (λ k. 0) (now reads) ⌝ }
     requires { ⌜ Tally (λ k. 0) (now targets) ⌝ }
     ensures { λ r. ⌜ r .«bad_nodes» ≡ badNodes (namesOf (now (file .entry))) (nodesOf (now (file .entry))) ⌝ }
-    ensures { λ r. ⌜ r .«bad_trees» ≡ badTrees (declaratorsOf (now (file .entry))) (statementsOf (now (file .entry))) (nodesOf (now (file .entry))) ⌝ }
-    ensures { λ r. ⌜ Tally (λ k. readsOf k (rowOf (nodesOf (now (file .entry))))) (now (reads .exit)) ⌝ }
-    ensures { λ r. ⌜ Tally (λ k. targetsOf k (rowOf (nodesOf (now (file .entry))))) (now (targets .exit)) ⌝ }
+    ensures { λ r. ⌜ (r .«bad_nodes» || r .«bad_trees») ≡ (badNodes (namesOf (now (file .entry))) (nodesOf (now (file .entry))) || badTrees (declaratorsOf (now (file .entry))) (statementsOf (now (file .entry))) (nodesOf (now (file .entry)))) ⌝ }
+    ensures { λ r. ⌜ (r .«bad_trees» ≡ false → Tally (λ k. readsOf k (rowOf (nodesOf (now (file .entry))))) (now (reads .exit))) ⌝ }
+    ensures { λ r. ⌜ (r .«bad_trees» ≡ false → Tally (λ k. targetsOf k (rowOf (nodesOf (now (file .entry))))) (now (targets .exit))) ⌝ }
 {
     let s = scan_nodes(file, h, stack, reads, targets);
     let found = stack.len() - s.top;
     let all = found == trees;
     NodeRows {
-        bad_nodes: !s.nodes,
-        bad_trees: !(s.trees & all & roots_stand(stack, s.top, found)),
+        bad_nodes: !s.nodes_good,
+        bad_trees: !(s.trees_taken & all & roots_stand(stack, s.top, found)),
     }
 }
 

@@ -1,7 +1,5 @@
 // The refusal table over a whole file, and the public call.
 pub mod answer;
-pub mod by_rows;
 pub mod check;
 pub mod file_rows;
 pub mod scan;
-pub mod tables;

@@ -12,6 +12,7 @@ use records::layout::NameFacts;
 use records::layout::NameId;
 use records::layout::Scope;
 use records::layout::ScopeId;
+use records::layout::header_of;
 use records::layout::name_at;
 use records::layout::scope_at;
 use records::number::size;
@@ -43,21 +44,21 @@ pub fn read_crosses_function_boundary(
     requires { ⌜ length (now file) ≡ fileLength h ⌝ }
     ensures { λ r. ⌜ r ≡ readCrossesFunctionBoundary (scopesOf (now (file .entry))) («read_scope» .0) («stop_scope» .0) ⌝ }
 {
-    let mut scope = read_scope.0;
+    let mut scope = read_scope;
     let mut steps = size(h.scopes);
     loop {
         if steps == 0 {
             break false;
         }
-        if scope == stop_scope.0 {
+        if scope.0 == stop_scope.0 {
             break false;
         }
-        let s = scope_of(file, h, ScopeId(scope));
+        let s = scope_of(file, h, scope);
         let function = s.flags / 1 % 2 == 1;
         if function {
             break true;
         }
-        scope = s.parent;
+        scope = ScopeId(s.parent);
         steps -= 1;
     }
 }
@@ -113,32 +114,12 @@ pub fn facts_of(file: &[u8], h: Header, name: NameId) -> NameFacts
     }
 }
 
-// A settled name by its own facts: resolved, no import, neither written nor mutated, not block scoped or of the current scope,
-// and not of scope 0 in a script. Of a block scoped name of another scope the scopes are asked.
-pub fn is_settled_by_facts(file: &[u8], h: Header, name: NameId) -> bool
-    requires { ⌜ h ≡ headerOf (now file) ⌝ }
-    requires { ⌜ length (now file) ≡ fileLength h ⌝ }
-    ensures { λ r. ⌜ (r ≡ true → unsettled (contextOf (read (now (file .entry)))) (name .0) ≡ false) ⌝ }
-{
-    let n = facts_of(file, h, name);
-    let block_scoped = n.flags / 1 % 2 == 1;
-    let outside = block_scoped & !(n.scope == h.current_scope);
-    let import = n.flags / 2 % 2 == 1;
-    let mutated = n.flags / 64 % 2 == 1;
-    let unresolved = n.flags / 128 % 2 == 1;
-    let script = h.options / 1 % 2 == 1;
-    !(outside | import | mutated | unresolved) & (n.writes == 0) & !(script & (n.scope == 0))
-}
-
 // Whether a read of a name may not change places with another step.
-pub fn identifier_read_blocks_reorder(file: &[u8], h: Header, name: NameId) -> bool
-    requires { ⌜ h ≡ headerOf (now file) ⌝ }
-    requires { ⌜ length (now file) ≡ fileLength h ⌝ }
+pub fn identifier_read_blocks_reorder(file: &[u8], name: NameId) -> bool
+    requires { ⌜ length (now file) ≡ fileLength (headerOf (now file)) ⌝ }
     ensures { λ r. ⌜ r ≡ unsettled (contextOf (read (now (file .entry)))) (name .0) ⌝ }
 {
-    if is_settled_by_facts(file, h, name) {
-        return false;
-    }
+    let h = header_of(file);
     let n = facts_of(file, h, name);
     let unresolved = n.flags / 128 % 2 == 1;
     if unresolved | symbol_value_may_change(file, h, n) {

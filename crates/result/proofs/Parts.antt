@@ -1,60 +1,39 @@
 -- Parts laid down one behind the other. Assumes nothing.
 use mathlib.Core.Path.{_≡_, refl, sym, ap, _∙_}
-use mathlib.Core.List.{List, [], _∷_, _++_, append-assoc, append-nil}
+use mathlib.Core.List.{List, [], _∷_, _++_, append-assoc}
 use Prim.Native.Nat.{ℕ, _+_, _-_, _*_, _≤_}
 use native.Mathlib.Nat.{sub-zero}
 use native.Mathlib.Omega.{arith}
 use borrow.Rule.Slice.PartMut.{midOf, putMid}
-use lib.ListN.{length, getD, take, drop, length-append, length-drop, drop-of-length-le}
-use lib.Seq.{take-all, take-at, drop-at, drop-drop, length-take-le}
-use Rattle.records.specs.Record.{nodeAt, nodeBytes}
-use Rattle.records.specs.Records.{recordsFrom, bytesOf}
+use lib.ListN.{length, getD, take, drop, length-append}
+use lib.Seq.{length-take-le}
 use Rattle.records.specs.File.{namesStart, scopesStart, framesStart, nodesStart, declaratorsStart, statementsStart, fileLength}
 use Rattle.records.specs.declared.layout.Header.{Header}
-use Rattle.records.proofs.Series.{records-length}
-use Rattle.roundtrip.proofs.Formats.{node-reads}
-use Rattle.roundtrip.proofs.Series.{bytesOf-length}
+use Rattle.writers.proofs.Laid.{put-next}
+use Rattle.table.proofs.NodePart.{nodePart, node-part-length}
 
-module _ (out₀ : List ℕ) where
-  -- a part of len bytes behind what is laid down
-  pub put-next : (pre bs : List ℕ) (at len end : ℕ) {out ys : List ℕ} → length pre ≡ at → at + len ≡ end → out ≡ pre ++ drop at out₀
-      → ys ≡ bs ++ drop len (midOf at (length out - at) out) → putMid at (length out - at) out ys ≡ pre ++ (bs ++ drop end out₀)
-  put-next pre bs at len end {out} {ys} m l e p =
-      let before : take at out ≡ pre = ap (take at) e ∙ take-at pre (drop at out₀) at m in
-      let behind : drop at out ≡ drop at out₀ = ap (drop at) e ∙ drop-at pre (drop at out₀) at m in
-      let whole : midOf at (length out - at) out ≡ drop at out₀ = take-all (length out - at) (drop at out) (omega (arith, length-drop at out)) ∙ behind in
-      let none : drop (length out - at) (drop at out) ≡ [] = drop-of-length-le (drop at out) {i = length out - at} (omega (arith, length-drop at out)) in
-      let laid : ys ≡ bs ++ drop end out₀ = p ∙ ap (λ (l : List ℕ). bs ++ drop len l) whole ∙ ap (λ (l : List ℕ). bs ++ l) (drop-drop len at out₀ ∙ ap (λ (k : ℕ). drop k out₀) l) in
-      rw (before, none, append-nil, laid)
-
-  -- two parts, one behind the other, behind what is laid down
-  pub put-two : (pre bs cs : List ℕ) (at len len′ : ℕ) {out ys zs : List ℕ} → length pre ≡ at → length bs ≡ len → out ≡ pre ++ drop at out₀
-      → ys ≡ bs ++ drop len (midOf at (length out - at) out)
-      → zs ≡ cs ++ drop len′ (midOf (at + len) (length (putMid at (length out - at) out ys) - (at + len)) (putMid at (length out - at) out ys))
-      → putMid (at + len) (length (putMid at (length out - at) out ys) - (at + len)) (putMid at (length out - at) out ys) zs
-      ≡ pre ++ (bs ++ (cs ++ drop (at + len + len′) out₀))
-  put-two pre bs cs at len len′ m n e p q =
-      put-next (pre ++ bs) cs (at + len) len′ (at + len + len′) (omega (arith, length-append pre bs)) refl
-      (put-next pre bs at len (at + len) m refl e p ∙ sym (append-assoc pre bs _)) q
-      ∙ append-assoc pre bs _
+-- two parts, one behind the other, behind what is laid down
+put-two : (out₀ pre bs cs : List ℕ) (at len len′ : ℕ) {out ys zs : List ℕ} → length pre ≡ at → length bs ≡ len → out ≡ pre ++ drop at out₀
+    → ys ≡ bs ++ drop len (midOf at (length out - at) out)
+    → zs ≡ cs ++ drop len′ (midOf (at + len) (length (putMid at (length out - at) out ys) - (at + len)) (putMid at (length out - at) out ys))
+    → putMid (at + len) (length (putMid at (length out - at) out ys) - (at + len)) (putMid at (length out - at) out ys) zs
+    ≡ pre ++ (bs ++ (cs ++ drop (at + len + len′) out₀))
+put-two out₀ pre bs cs at len len′ m n e p q =
+    put-next out₀ (pre ++ bs) cs (at + len) len′ (at + len + len′) (omega (arith, length-append pre bs)) refl
+    (put-next out₀ pre bs at len (at + len) m refl e p ∙ sym (append-assoc pre bs _)) q
+    ∙ append-assoc pre bs _
 
 -- the nodes of a table, and behind them the first records of two others, four bytes each
 module _ (out₀ nodes declarators statements : List ℕ) (n d s : ℕ) where
-  abbrev nodePart : List ℕ
-  nodePart = bytesOf nodeBytes (recordsFrom (nodeAt nodes) 16 n 0)
-
-  node-part-length : length nodePart ≡ 12 * n
-  node-part-length = bytesOf-length node-reads (recordsFrom (nodeAt nodes) 16 n 0) ∙ ap (λ (k : ℕ). 12 * k) (records-length (nodeAt nodes) 16 n 0)
-
-  pub tables-put : {out ys zs : List ℕ} → 4 * d ≤ length declarators → out ≡ nodePart ++ drop (12 * n) out₀
+  pub tables-put : {out ys zs : List ℕ} → 4 * d ≤ length declarators → out ≡ nodePart nodes n ++ drop (12 * n) out₀
       → ys ≡ take (4 * d - 0) declarators ++ drop (4 * d - 0) (midOf (12 * n) (length out - 12 * n) out)
       → zs ≡ take (4 * s - 0) statements
       ++ drop (4 * s - 0)
       (midOf (12 * n + 4 * d) (length (putMid (12 * n) (length out - 12 * n) out ys) - (12 * n + 4 * d)) (putMid (12 * n) (length out - 12 * n) out ys))
       → putMid (12 * n + 4 * d) (length (putMid (12 * n) (length out - 12 * n) out ys) - (12 * n + 4 * d)) (putMid (12 * n) (length out - 12 * n) out ys) zs
-      ≡ nodePart ++ (take (4 * d) declarators ++ (take (4 * s) statements ++ drop (12 * n + 4 * d + 4 * s) out₀))
+      ≡ nodePart nodes n ++ (take (4 * d) declarators ++ (take (4 * s) statements ++ drop (12 * n + 4 * d + 4 * s) out₀))
   tables-put h e p q =
-      put-two out₀ nodePart (take (4 * d) declarators) (take (4 * s) statements) (12 * n) (4 * d) (4 * s) node-part-length
+      put-two out₀ (nodePart nodes n) (take (4 * d) declarators) (take (4 * s) statements) (12 * n) (4 * d) (4 * s) (node-part-length nodes n)
       (length-take-le (4 * d) declarators h) e (p ∙ rw sub-zero) (q ∙ rw sub-zero)
 
 -- where the nodes begin, by the part table of a header

@@ -19,11 +19,11 @@ use Rattle.roundtrip.proofs.PrintedStatements.{declaratorRecords-length, statem
 use Rattle.roundtrip.proofs.Preorder.{preorders-length}
 use Rattle.roundtrip.proofs.ReadFile.{namesOf-length, scopesOf-length, framesOf-length}
 use Rattle.roundtrip.proofs.Series.{bytesOf-length, read-all, print-all}
+use Rattle.writers.proofs.Laid.{put-next}
 use Rattle.table.proofs.Laid.{work-reads, laids-preorders}
 use Rattle.result.specs.declared.header.Counts.{Counts}
 use Rattle.result.specs.Header.{resultHeader}
 use Rattle.result.specs.Result.{SameFacts, Stated, PutsResult}
-use Rattle.result.proofs.Parts.{put-next}
 
 -- the facts of a file, as it has them behind its header
 abbrev factBytes : File → List ℕ
@@ -118,23 +118,22 @@ module _ (bs nodes declarators statements : List ℕ) (counts : Counts) (out₀ 
   tableBytes rest =
       bytesOf nodeBytes (recordsFrom (nodeAt nodes) 16 (counts .nodes) 0) ++ (take (4 * counts .declarators) declarators ++ (take (4 * counts .statements) statements ++ rest))
 
-  pub result-put : (h header : Header) (end last : ℕ) {out ys : List ℕ} → Bytes bs → h ≡ headerOf bs → length bs ≡ fileLength h
-      → header ≡ resultHeader h counts → end ≡ nodesStart header → last ≡ fileLength header
+  pub result-put : (h header : Header) (end : ℕ) {out ys : List ℕ} → Bytes bs → h ≡ headerOf bs → length bs ≡ fileLength h
+      → header ≡ resultHeader h counts → end ≡ nodesStart header
       → out ≡ headerBytes header ++ (take (end - 24) (drop 24 bs) ++ drop end out₀)
       → ys ≡ tableBytes (drop (12 * counts .nodes + 4 * counts .declarators + 4 * counts .statements) (midOf end (length out - end) out))
-      → PutsResult bs nodes declarators statements counts out₀ (putMid end (length out - end) out ys) last
-  result-put h header end last {out} {ys} small eh long er ee el p q f rest₁ rest₂ rest₃ same s =
+      → PutsResult bs nodes declarators statements counts out₀ (putMid end (length out - end) out ys)
+  result-put h header end {out} {ys} small eh long er ee p q f rest₁ rest₂ rest₃ same s =
       let facts = take (end - 24) (drop 24 bs) in
       let tables = tableBytes [] in
       let header-is : header ≡ resultHeader (headerOf bs) counts = er ∙ ap (λ (h : Header). resultHeader h counts) eh in
       let end-is : end ≡ nodesStart (headerOf bs) = ee ∙ ap (λ (h : Header). nodesStart h) header-is in
-      let last-is : last ≡ fileLength (resultHeader (headerOf bs) counts) = el ∙ ap (λ (h : Header). fileLength h) header-is in
+      let last = fileLength (resultHeader (headerOf bs) counts) in
       let bs-long : length bs ≡ fileLength (headerOf bs) = long ∙ ap (λ (h : Header). fileLength h) eh in
       let facts-length : length facts ≡ end - 24 = length-take-le (end - 24) (drop 24 bs) (omega (arith, length-drop 24 bs)) in
       let put = put-next out₀ (headerBytes header ++ facts) tables end (12 * counts .nodes + 4 * counts .declarators + 4 * counts .statements) last
-      (omega (arith, length-append (headerBytes header) facts, header-length header, facts-length)) (omega (arith, end-is, last-is))
+      (omega (arith, length-append (headerBytes header) facts, header-length header, facts-length)) (omega (arith, end-is))
       (p ∙ sym (append-assoc (headerBytes header) facts (drop end out₀))) (q ∙ simp (append-assoc, append-nil)) in
       let flat : (headerBytes header ++ facts) ++ (tables ++ drop last out₀) ≡ headerBytes header ++ (facts ++ tableBytes (drop last out₀)) = simp (append-assoc, append-nil) in
       let printed : headerBytes header ++ (facts ++ tableBytes (drop last out₀)) ≡ print f ++ drop last out₀ = rw (header-is, end-is) (result-printed f s bs same small bs-long (drop last out₀)) in
-      let e = last-is ∙ result-long f s bs same in
-      (e, put ∙ flat ∙ printed ∙ ap (λ (k : ℕ). print f ++ drop k out₀) e)
+      put ∙ flat ∙ printed ∙ ap (λ (k : ℕ). print f ++ drop k out₀) (result-long f s bs same)

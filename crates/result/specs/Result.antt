@@ -34,7 +34,7 @@ pub record Stated (ss : List Statement) (nodes declarators statements : List ℕ
   pub listed : counts .statements ≡ length ss
 
 -- The file of those facts and those statements stands at the start of the output, which is as it was behind it.
-abbrev pub PutsResult : List ℕ → List ℕ → List ℕ → List ℕ → Counts → List ℕ → List ℕ → ℕ → Type 0
-PutsResult file nodes declarators statements counts out out′ r =
+abbrev pub PutsResult : List ℕ → List ℕ → List ℕ → List ℕ → Counts → List ℕ → List ℕ → Type 0
+PutsResult file nodes declarators statements counts out out′ =
     (f : File) (rest₁ rest₂ rest₃ : List ℕ) → SameFacts f (read file) → Stated (f .statements) nodes declarators statements counts rest₁ rest₂ rest₃
-    → (r ≡ length (print f)) × (out′ ≡ print f ++ drop (length (print f)) out)
+    → out′ ≡ print f ++ drop (length (print f)) out

@@ -42,7 +42,16 @@ fn put_tables(out: &mut [u8], nodes: &[u8], declarators: &[u8], statements: &[u8
     put_copy(&mut out[next..], statements, 0, 4 * counts.statements);
 }
 
-// Lays the result down and returns its length. The facts are those of the file, whose header is `h`; the nodes stand in a
+// How long the result is that has so many nodes, declarators and statements.
+pub fn result_length(h: Header, counts: Counts) -> usize
+    requires { ⌜ Countable counts ⌝ }
+    ensures { λ r. ⌜ r ≡ fileLength (resultHeader h counts) ⌝ }
+{
+    let parts = part_offsets(result_header(h, counts));
+    parts[6]
+}
+
+// Lays the result down. The facts are those of the file, whose header is `h`; the nodes stand in a
 // work table, the declarators and the statements as in a file.
 pub fn put_result(
     out: &mut [u8],
@@ -52,18 +61,17 @@ pub fn put_result(
     declarators: &[u8],
     statements: &[u8],
     counts: Counts,
-) -> usize
+)
     requires { ⌜ h ≡ headerOf (now file) ⌝ }
     requires { ⌜ length (now file) ≡ fileLength h ⌝ }
     requires { ⌜ Countable counts ⌝ }
     requires { ⌜ Hold (now nodes) (now declarators) (now statements) counts ⌝ }
     requires { ⌜ fileLength (resultHeader h counts) ≤ length (now out) ⌝ }
-    ensures { λ r. ⌜ PutsResult (now (file .entry)) (now (nodes .entry)) (now (declarators .entry)) (now (statements .entry)) counts (now (out .entry)) (now (out .exit)) r ⌝ }
+    ensures { λ _. ⌜ PutsResult (now (file .entry)) (now (nodes .entry)) (now (declarators .entry)) (now (statements .entry)) counts (now (out .entry)) (now (out .exit)) ⌝ }
 {
     let header = result_header(h, counts);
     let parts = part_offsets(header);
     let end = parts[3];
     put_facts(out, file, header, end);
     put_tables(&mut out[end..], nodes, declarators, statements, counts);
-    parts[6]
 }

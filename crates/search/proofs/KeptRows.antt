@@ -16,10 +16,11 @@ use Rattle.table.proofs.Laid.{laid-length, laid-split}
 use Rattle.splice.specs.Blocks.{Overwrites}
 use Rattle.statements.specs.Declarators.{isUsing}
 use Rattle.statements.specs.Statements.{Kept}
+use Rattle.statements.proofs.Totals.{total, total-reverse, declaratorSize, weight, keptWeight, keptDeclarators}
 use Rattle.search.specs.Kept.{laidDeclarators, bareDeclarators, Held}
 use Rattle.search.specs.KeptStatements.{laidStatement, nodesOfStatement, bareStatement, laidKept, nodesKept, declaratorsKept, bareKept, HeldKept, KeepsBefore}
 use Rattle.search.specs.FromDeclarators.{StandingRow}
-use Rattle.search.proofs.Going.{declarators-split, declarators-length}
+use Rattle.search.proofs.Going.{declarators-split, declarators-length, nodes-in}
 use Rattle.search.proofs.Written.{statement-before, written}
 
 -- the trees of statements, and the bytes behind them
@@ -48,6 +49,23 @@ pub kept-length : (ks : List Kept) (x : List ℕ) → length (laidKept ks x) ≡
 unfolding laidKept nodesKept
 kept-length [] x = omega arith
 kept-length (k ∷ ks) x = omega (arith, kept-length ks (laidStatement (k .statement) x), statement-length (k .statement) x)
+
+-- the nodes and declarators of what is kept, as sums
+statement-total : (s : Statement) → nodesOfStatement s + length (declaratorsIn s) ≡ weight s
+unfolding nodesOfStatement declaratorsIn weight
+statement-total (declaration kind ds) = omega (arith, nodes-in (reverse ds), total-reverse declaratorSize ds)
+statement-total (expression t) = omega arith
+statement-total other = refl
+
+pub kept-total : (ks : List Kept) → nodesKept ks + declaratorsKept ks ≡ total keptWeight ks
+unfolding nodesKept declaratorsKept total keptWeight
+kept-total [] = refl
+kept-total (k ∷ ks) = omega (arith, kept-total ks, statement-total (k .statement))
+
+pub declarators-total : (ks : List Kept) → declaratorsKept ks ≡ total keptDeclarators ks
+unfolding declaratorsKept total keptDeclarators
+declarators-total [] = refl
+declarators-total (k ∷ ks) = omega (arith, declarators-total ks)
 
 -- a declaration with its number in the file
 abbrev pub keptDeclaration : ℕ → DeclarationKind → List Declarator → Kept

@@ -10,10 +10,10 @@ use Rattle.records.specs.declared.layout.DeclaratorRecord.{DeclaratorRecord}
 use Rattle.table.specs.Laid.{laid}
 use Rattle.walk.specs.Context.{Context}
 use Rattle.plans.specs.Search.{bareNames}
-use Rattle.statements.specs.Declarators.{substituteFromDeclarators}
+use Rattle.statements.specs.Declarators.{FromDeclarators, substituteFromDeclarators}
 use Rattle.search.specs.declared.declarator.Tried.{Tried}
 use Rattle.search.specs.declared.from_declarators.Searched.{Searched}
-use Rattle.search.specs.Kept.{laidInitializer, nodesOf, bareInitializer, laidDeclarators, nodesIn, bareDeclarators, Held}
+use Rattle.search.specs.Kept.{laidInitializer, nodesOf, bareInitializer, laidDeclarators, nodesIn, bareDeclarators, Held, namesFrom, foldedNames, mostInUse}
 use Rattle.search.specs.Step.{Step, stepFrom}
 
 -- Behind some bytes stand a declarator's initializer, if it has one, and the tree that is searched.
@@ -34,14 +34,15 @@ CanTry table d from start used =
 abbrev pub StepLeaves : List ℕ → ℕ → Initializer → List ℕ → List ℕ → Step → Tried → Type 0
 StepLeaves table from initializer pre rest step r =
     cond (step .folds)
-    ((rest′ : List ℕ) × (table ≡ pre ++ laid (step .target) rest′) × (r .start ≡ from))
-    ((table ≡ pre ++ laidInitializer initializer (laid (step .target) rest)) × (r .start ≡ from + nodesOf initializer))
+    ((rest′ : List ℕ) × (table ≡ pre ++ laid (step .target) rest′) × (r .tree .0 ≡ from))
+    ((table ≡ pre ++ laidInitializer initializer (laid (step .target) rest)) × (r .tree .0 ≡ from + nodesOf initializer))
 
 pub record Stepped (table : List ℕ) (from : ℕ) (initializer : Initializer) (pre rest : List ℕ) (step : Step) (r : Tried) : Type 0 where
   pub folded : r .folded ≡ step .folds
   pub leaves : StepLeaves table from initializer pre rest step r
-  pub used : r .used ≡ r .start + size (step .target)
+  pub used : r .«nodes_used» ≡ r .tree .0 + size (step .target)
   pub names : bareNames (step .target) ≡ true
+  pub looks : r .looks ≡ step .looks
 
 abbrev pub Tries : Context → Bool → List ℕ → List ℕ → DeclaratorRecord → ℕ → ℕ → ℕ → Tried → Type 0
 Tries ctx literalOnly table table′ d from start used r =
@@ -59,23 +60,26 @@ pub record StandingRow (table records starts : List ℕ) (low many at start used
   pub ends : used ≡ start + size target
   pub names : (bareDeclarators ds && bareNames target) ≡ true
 
--- so it is for some, with room for a node more for each of them
+-- so it is for some, with room for a node more for each of them, and not too many
 abbrev pub CanSearch : List ℕ → List ℕ → List ℕ → ℕ → ℕ → ℕ → ℕ → Type 0
 CanSearch table records starts low many start used =
     (at : ℕ) × (ds : List Declarator) × (target : Tree) × (pre : List ℕ) × (rest : List ℕ)
     × StandingRow table records starts low many at start used ds target pre rest × (16 * used + 16 * length ds ≤ length table)
+    × (used + length ds ≤ mostInUse)
 
--- the search of a tree from declarators has done as the rules say
-pub record Found (table : List ℕ) (low at : ℕ) (pre : List ℕ) (left : List Declarator) (target : Tree) (folds : ℕ) (r : Searched) (rest : List ℕ) : Type 0 where
-  pub is : table ≡ pre ++ laidDeclarators left (laid target rest)
-  pub many : r .many ≡ low + length left
-  pub start : r .start ≡ at + nodesIn left
-  pub used : r .used ≡ r .start + size target
-  pub folded : r .folds ≡ folds
-  pub names : (bareDeclarators left && bareNames target) ≡ true
+-- The search of a tree from declarators has done as the rules say; those that were folded are the last.
+pub record Found (table records : List ℕ) (low at : ℕ) (pre : List ℕ) (w : FromDeclarators) (r : Searched) (rest : List ℕ) : Type 0 where
+  pub is : table ≡ pre ++ laidDeclarators (w .result .left) (laid (w .result .target) rest)
+  pub many : r .«declarators_kept» ≡ low + length (w .result .left)
+  pub start : r .tree .0 ≡ at + nodesIn (w .result .left)
+  pub used : r .«nodes_used» ≡ r .tree .0 + size (w .result .target)
+  pub names : (bareDeclarators (w .result .left) && bareNames (w .result .target)) ≡ true
+  pub folded : r .folds ≡ length (w .trace)
+  pub listed : foldedNames (w .trace) ≡ namesFrom records (r .«declarators_kept») (r .folds)
+  pub looks : r .looks ≡ w .looks
 
 abbrev pub SearchesFrom : Context → Bool → List ℕ → List ℕ → List ℕ → List ℕ → ℕ → ℕ → ℕ → ℕ → Searched → Type 0
 SearchesFrom ctx literalOnly table table′ records starts low many start used r =
     (at : ℕ) (ds : List Declarator) (target : Tree) (pre rest : List ℕ) → StandingRow table records starts low many at start used ds target pre rest
     → (before : List Statement) (kind : DeclarationKind)
-    → (rest′ : List ℕ) × Found table′ low at pre (substituteFromDeclarators ctx before kind literalOnly ds target .result .left) (substituteFromDeclarators ctx before kind literalOnly ds target .result .target) (length (substituteFromDeclarators ctx before kind literalOnly ds target .trace)) r rest′
+    → (rest′ : List ℕ) × Found table′ records low at pre (substituteFromDeclarators ctx before kind literalOnly ds target) r rest′

@@ -1,7 +1,7 @@
 -- Declarators that are kept, the last first: their trees in the work table, one after the other, and their records.
-use Prim.Native.Nat.{ℕ, _+_, _*_}
+use Prim.Native.Nat.{ℕ, zero, suc, _+_, _*_}
 use mathlib.Core.Bool.{Bool, true, _&&_}
-use mathlib.Core.List.{List, [], _∷_}
+use mathlib.Core.List.{List, [], _∷_, map}
 use mathlib.Core.Path.{_≡_}
 use lib.ListN.{length, getD}
 use Rattle.records.specs.Record.{declaratorAt}
@@ -9,6 +9,7 @@ use Rattle.records.specs.Tree.{size}
 use Rattle.records.specs.File.{Initializer, bare, given, isGiven, Declarator}
 use Rattle.table.specs.Laid.{laid}
 use Rattle.plans.specs.Search.{bareNames}
+use Rattle.statements.specs.Trace.{Fold}
 
 -- the tree of an initializer, before other bytes; its nodes; whether no name in it has children
 unfoldable pub laidInitializer : Initializer → List ℕ → List ℕ
@@ -44,3 +45,16 @@ Held records starts low at (d ∷ ds) =
     (declaratorAt records (4 * (low + length ds)) ≡ record { name = d .name; present = isGiven (d .initializer) })
     × (getD starts (low + length ds) 0 ≡ at + nodesIn ds)
     × Held records starts low at ds
+
+-- the names of so many declarators from number `low` on, the last first
+unfoldable pub namesFrom : List ℕ → ℕ → ℕ → List ℕ
+namesFrom records low zero = []
+namesFrom records low (suc n) = declaratorAt records (4 * (low + n)) .name ∷ namesFrom records low n
+
+-- the names that folds took
+abbrev pub foldedNames : List Fold → List ℕ
+foldedNames trace = map (λ f. f .name) trace
+
+-- No accepted file comes to so many nodes and declarators: it bounds the looks of a search.
+abbrev pub mostInUse : ℕ
+mostInUse = 65536

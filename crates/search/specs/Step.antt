@@ -1,23 +1,29 @@
--- The search from one declarator: whether its initializer was placed, and what the tree became.
+-- The search from one declarator: whether its initializer was placed, what the tree became, and the looks.
 use mathlib.Core.Bool.{Bool, true, false, cond}
 use Prim.Native.Nat.{ℕ}
 use Rattle.records.specs.Tree.{Tree}
 use Rattle.records.specs.File.{Initializer, bare, given}
 use Rattle.walk.specs.Context.{Context}
 use Rattle.walk.specs.Substitute.{Answer, replaced, stopped, passed, substituteInExpression}
+use Rattle.walk.specs.Looks.{looksInExpression}
 use Rattle.statements.specs.Declarators.{endsSearch}
 
 pub record Step : Type 0 where
   pub folds : Bool
   pub target : Tree
+  pub looks : ℕ
 
-unfoldable pub byAnswer : Tree → Answer Tree → Step
-byAnswer target (replaced t) = record { folds = true; target = t }
-byAnswer target (stopped t) = record { folds = false; target = t }
-byAnswer target passed = record { folds = false; target = target }
+unfoldable pub byAnswer : Tree → ℕ → Answer Tree → Step
+byAnswer target looks (replaced t) = record { folds = true; target = t; looks = looks }
+byAnswer target looks (stopped t) = record { folds = false; target = t; looks = looks }
+byAnswer target looks passed = record { folds = false; target = target; looks = looks }
+
+-- no search was made
+abbrev pub noStep : Tree → Step
+noStep target = record { folds = false; target = target; looks = 0 }
 
 unfoldable pub stepFrom : Context → Bool → ℕ → Initializer → Tree → Step
-stepFrom ctx literalOnly name bare target = record { folds = false; target = target }
+stepFrom ctx literalOnly name bare target = noStep target
 stepFrom ctx literalOnly name (given initializer) target =
-    cond (endsSearch ctx literalOnly name initializer) (record { folds = false; target = target })
-    (byAnswer target (substituteInExpression ctx name initializer target))
+    cond (endsSearch ctx literalOnly name initializer) (noStep target)
+    (byAnswer target (looksInExpression ctx name initializer target) (substituteInExpression ctx name initializer target))

@@ -14,7 +14,7 @@ use declarators::declarator::plain_name;
 use declarators::declarator::value_record;
 use declarators::describe::describe;
 use declarators::ends::ends_search;
-use plans::walked::is_replaced;
+use plans::walked::Answer;
 use records::layout::DeclaratorRecord;
 use records::layout::Header;
 use records::layout::NodeId;
@@ -23,72 +23,74 @@ use splice::splice;
 use substitute::expression::substitute_single_use_symbol_in_expression;
 use table::work_node;
 
-// Whether the initializer was placed; where the searched tree begins then, and how many nodes are in use.
+// Whether the initializer was placed; where the searched tree begins then, how many nodes are in use, and the looks.
 pub struct Tried {
     pub folded: bool,
-    pub start: usize,
-    pub used: usize,
+    pub tree: NodeId,
+    pub nodes_used: usize,
+    pub looks: usize,
 }
 
 // The initializer was not placed.
-fn kept(start: usize, used: usize) -> Tried
-    ensures { λ r. ⌜ r ≡ record { folded = false; start = start; used = used } ⌝ }
+fn kept(tree: NodeId, nodes_used: usize, looks: usize) -> Tried
+    ensures { λ r. ⌜ r ≡ record { folded = false; tree = tree; «nodes_used» = «nodes_used»; looks = looks } ⌝ }
 {
     Tried {
         folded: false,
-        start,
-        used,
+        tree,
+        nodes_used,
+        looks,
     }
 }
 
-// It was, in the tree that begins at `start` now.
-fn folded(start: usize, used: usize) -> Tried
-    ensures { λ r. ⌜ r ≡ record { folded = true; start = start; used = used } ⌝ }
+// It was, in the tree that begins at `tree` now.
+fn folded(tree: NodeId, nodes_used: usize, looks: usize) -> Tried
+    ensures { λ r. ⌜ r ≡ record { folded = true; tree = tree; «nodes_used» = «nodes_used»; looks = looks } ⌝ }
 {
     Tried {
         folded: true,
-        start,
-        used,
+        tree,
+        nodes_used,
+        looks,
     }
 }
 
-// The initializer, if there is one, begins at node `from`, the searched tree at `start`; it is the last of the `used` nodes.
+// The initializer, if there is one, begins at node `from`, the searched tree at `tree`; it is the last of the nodes in use.
 pub fn substitute_single_use_symbol_in_expression_from_declarator(
     file: &[u8],
     h: Header,
     nodes: &mut [u8],
     d: DeclaratorRecord,
-    from: usize,
-    start: usize,
-    used: usize,
+    from: NodeId,
+    tree: NodeId,
+    nodes_used: usize,
     literal_only: bool,
 ) -> Tried
     requires { ⌜ h ≡ headerOf (now file) ⌝ }
     requires { ⌜ length (now file) ≡ fileLength h ⌝ }
-    requires { ⌜ CanTry (now nodes) d from start used ⌝ }
-    ensures { λ r. ⌜ Tries (contextOf (read (now (file .entry)))) «literal_only» (now (nodes .entry)) (now (nodes .exit)) d from start used r ⌝ }
+    requires { ⌜ CanTry (now nodes) d (from .0) (tree .0) «nodes_used» ⌝ }
+    ensures { λ r. ⌜ Tries (contextOf (read (now (file .entry)))) «literal_only» (now (nodes .entry)) (now (nodes .exit)) d (from .0) (tree .0) «nodes_used» r ⌝ }
 {
-    let Initializer::Given(initializer) = initializer_of(d, NodeId(from)) else {
-        return kept(start, used);
+    let Initializer::Given(initializer) = initializer_of(d, from) else {
+        return kept(tree, nodes_used, 0);
     };
     let PlainName::Name(name) = plain_name(d) else {
-        return kept(start, used);
+        return kept(tree, nodes_used, 0);
     };
     let n = facts_of(file, h, name);
     let ValueRecord::Recorded(reads, writes) = value_record(n) else {
-        return kept(start, used);
+        return kept(tree, nodes_used, 0);
     };
     let root = work_node(nodes, initializer);
     if ends_search(h, n, reads, writes, root, literal_only) {
-        return kept(start, used);
+        return kept(tree, nodes_used, 0);
     }
     let s = describe(nodes, initializer, name);
-    let w = substitute_single_use_symbol_in_expression(file, h, nodes, NodeId(start), s);
+    let w = substitute_single_use_symbol_in_expression(file, nodes, tree, s);
     let answer = w.answer;
-    let place = w.place;
-    if is_replaced(answer) {
-        let left = splice(nodes, initializer, NodeId(start), place, used, w.indirect);
-        return folded(initializer.0, left);
-    }
-    kept(start, used)
+    let Answer::Replaced(place, indirect) = answer else {
+        return kept(tree, nodes_used, w.looks);
+    };
+    let left = splice(nodes, initializer, tree, place, nodes_used, indirect);
+    folded(initializer, left, w.looks)
 }

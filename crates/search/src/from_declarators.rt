@@ -9,70 +9,75 @@ ghost use Rattle.walk.specs.Context.{contextOf};
 ghost use Rattle.search.specs.FromDeclarators.{CanSearch, SearchesFrom};
 use crate::declarator::substitute_single_use_symbol_in_expression_from_declarator;
 use records::layout::Header;
+use records::layout::NodeId;
 use records::layout::declarator_at;
 
-// How many declarators are left, where the searched tree begins, how many nodes are in use, and the folds.
-pub struct Searched {
-    pub many: usize,
-    pub start: usize,
-    pub used: usize,
-    pub folds: usize,
+// The tree that is searched: how many declarators are kept before it, and where it begins; it is the last of the nodes in use.
+pub struct Target {
+    pub declarators_kept: usize,
+    pub tree: NodeId,
+    pub nodes_used: usize,
 }
 
-// The declarators are those from number `low` to `many`; the tree begins at node `start` and is the last of the `used` nodes.
+// How many declarators are left, where the searched tree begins, how many nodes are in use, the folds and the looks.
+pub struct Searched {
+    pub declarators_kept: usize,
+    pub tree: NodeId,
+    pub nodes_used: usize,
+    pub folds: usize,
+    pub looks: usize,
+}
+
+// The declarators are those from number `first` on.
 pub fn substitute_single_use_symbol_in_expression_from_declarators(
     file: &[u8],
     h: Header,
     nodes: &mut [u8],
     declarators: &[u8],
     starts: &[usize],
-    low: usize,
-    many: usize,
-    start: usize,
-    used: usize,
+    first: usize,
+    target: Target,
     literal_only: bool,
 ) -> Searched
     requires { ⌜ h ≡ headerOf (now file) ⌝ }
     requires { ⌜ length (now file) ≡ fileLength h ⌝ }
-    requires { ⌜ CanSearch (now nodes) (now declarators) (now starts) low many start used ⌝ }
-    requires { ⌜ 4 * many ≤ length (now declarators) ⌝ }
-    requires { ⌜ many ≤ length (now starts) ⌝ }
-    ensures { λ r. ⌜ SearchesFrom (contextOf (read (now (file .entry)))) «literal_only» (now (nodes .entry)) (now (nodes .exit)) (now (declarators .entry)) (now (starts .entry)) low many start used r ⌝ }
+    requires { ⌜ CanSearch (now nodes) (now declarators) (now starts) first (target .«declarators_kept») (target .tree .0) (target .«nodes_used») ⌝ }
+    requires { ⌜ 4 * target .«declarators_kept» ≤ length (now declarators) ⌝ }
+    requires { ⌜ target .«declarators_kept» ≤ length (now starts) ⌝ }
+    ensures { λ r. ⌜ SearchesFrom (contextOf (read (now (file .entry)))) «literal_only» (now (nodes .entry)) (now (nodes .exit)) (now (declarators .entry)) (now (starts .entry)) first (target .«declarators_kept») (target .tree .0) (target .«nodes_used») r ⌝ }
 {
-    let mut left = many;
-    let mut begin = start;
-    let mut end = used;
+    let mut left = target.declarators_kept;
+    let mut tree = target.tree;
+    let mut nodes_used = target.nodes_used;
     let mut folds: usize = 0;
-    while low < left {
+    let mut looks: usize = 0;
+    while first < left {
         let d = declarator_at(declarators, 4 * (left - 1));
-        let from = starts[left - 1];
+        let start = starts[left - 1];
         let t = substitute_single_use_symbol_in_expression_from_declarator(
             file,
             h,
             nodes,
             d,
-            from,
-            begin,
-            end,
+            NodeId(start),
+            tree,
+            nodes_used,
             literal_only,
         );
+        looks += t.looks;
         if !t.folded {
-            return Searched {
-                many: left,
-                start: begin,
-                used: end,
-                folds,
-            };
+            break;
         }
         left -= 1;
-        begin = t.start;
-        end = t.used;
         folds += 1;
+        tree = t.tree;
+        nodes_used = t.nodes_used;
     }
     Searched {
-        many: left,
-        start: begin,
-        used: end,
+        declarators_kept: left,
+        tree,
+        nodes_used,
         folds,
+        looks,
     }
 }

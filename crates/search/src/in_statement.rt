@@ -10,21 +10,25 @@ ghost use Rattle.walk.specs.Context.{contextOf};
 ghost use Rattle.splice.specs.Blocks.{Overwrites};
 ghost use Rattle.statements.specs.Declarators.{isUnsearched};
 ghost use Rattle.search.specs.InStatement.{CanSearchStatements, SearchesStatements};
+use crate::from_declarators::Target;
 use crate::from_declarators::substitute_single_use_symbol_in_expression_from_declarators;
 use declarators::unsearched::is_unsearched;
 use records::layout::Header;
+use records::layout::NodeId;
 use records::layout::StatementRecord;
 use records::layout::statement_at;
 use records::number::size;
 use writers::put::put_statement;
 
-// How many statements and declarators are left, where the searched tree begins, how many nodes are in use, and the folds.
+// How many statements and declarators are left, where the searched tree begins, how many nodes are in use, the folds and the
+// looks.
 pub struct InStatement {
-    pub count: usize,
-    pub many: usize,
-    pub start: usize,
-    pub used: usize,
+    pub statements_kept: usize,
+    pub declarators_kept: usize,
+    pub tree: NodeId,
+    pub nodes_used: usize,
     pub folds: usize,
+    pub looks: usize,
 }
 
 // Writes the record of a declaration of so many declarators.
@@ -41,7 +45,7 @@ fn put_declaration(statements: &mut [u8], at: usize, kind: u8, many: usize)
     put_statement(&mut statements[at..], s);
 }
 
-// `count` statements with `many` declarators are kept; the tree begins at node `start` and is the last of the `used` nodes.
+// The declarators that are kept are those of the statements.
 pub fn substitute_single_use_symbol_in_statement(
     file: &[u8],
     h: Header,
@@ -49,26 +53,26 @@ pub fn substitute_single_use_symbol_in_statement(
     declarators: &[u8],
     starts: &[usize],
     statements: &mut [u8],
-    count: usize,
-    many: usize,
-    start: usize,
-    used: usize,
+    statements_kept: usize,
+    target: Target,
 ) -> InStatement
     requires { ⌜ h ≡ headerOf (now file) ⌝ }
     requires { ⌜ length (now file) ≡ fileLength h ⌝ }
-    requires { ⌜ CanSearchStatements (now nodes) (now declarators) (now starts) (now statements) count many start used ⌝ }
-    requires { ⌜ 4 * many ≤ length (now declarators) ⌝ }
-    requires { ⌜ many ≤ length (now starts) ⌝ }
-    requires { ⌜ 4 * count ≤ length (now statements) ⌝ }
-    ensures { λ r. ⌜ SearchesStatements (contextOf (read (now (file .entry)))) (now (nodes .entry)) (now (nodes .exit)) (now (declarators .entry)) (now (starts .entry)) (now (statements .entry)) (now (statements .exit)) count many start used r ⌝ }
+    requires { ⌜ CanSearchStatements (now nodes) (now declarators) (now starts) (now statements) «statements_kept» (target .«declarators_kept») (target .tree .0) (target .«nodes_used») ⌝ }
+    requires { ⌜ 4 * target .«declarators_kept» ≤ length (now declarators) ⌝ }
+    requires { ⌜ target .«declarators_kept» ≤ length (now starts) ⌝ }
+    requires { ⌜ 4 * «statements_kept» ≤ length (now statements) ⌝ }
+    ensures { λ r. ⌜ SearchesStatements (contextOf (read (now (file .entry)))) (now (nodes .entry)) (now (nodes .exit)) (now (declarators .entry)) (now (starts .entry)) (now (statements .entry)) (now (statements .exit)) «statements_kept» (target .«declarators_kept») (target .tree .0) (target .«nodes_used») r ⌝ }
 {
     if is_unsearched(file, h) {
+        let tree = target.tree;
         return InStatement {
-            count,
-            many,
-            start,
-            used,
+            statements_kept,
+            declarators_kept: target.declarators_kept,
+            tree,
+            nodes_used: target.nodes_used,
             folds: 0,
+            looks: 0,
         };
     }
     from_statements(
@@ -78,10 +82,8 @@ pub fn substitute_single_use_symbol_in_statement(
         declarators,
         starts,
         statements,
-        count,
-        many,
-        start,
-        used,
+        statements_kept,
+        target,
     )
 }
 
@@ -93,26 +95,25 @@ fn from_statements(
     declarators: &[u8],
     starts: &[usize],
     statements: &mut [u8],
-    count: usize,
-    many: usize,
-    start: usize,
-    used: usize,
+    statements_kept: usize,
+    target: Target,
 ) -> InStatement
     requires { ⌜ h ≡ headerOf (now file) ⌝ }
     requires { ⌜ length (now file) ≡ fileLength h ⌝ }
     requires { ⌜ isUnsearched (contextOf (read (now file))) ≡ false ⌝ }
-    requires { ⌜ CanSearchStatements (now nodes) (now declarators) (now starts) (now statements) count many start used ⌝ }
-    requires { ⌜ 4 * many ≤ length (now declarators) ⌝ }
-    requires { ⌜ many ≤ length (now starts) ⌝ }
-    requires { ⌜ 4 * count ≤ length (now statements) ⌝ }
-    ensures { λ r. ⌜ SearchesStatements (contextOf (read (now (file .entry)))) (now (nodes .entry)) (now (nodes .exit)) (now (declarators .entry)) (now (starts .entry)) (now (statements .entry)) (now (statements .exit)) count many start used r ⌝ }
+    requires { ⌜ CanSearchStatements (now nodes) (now declarators) (now starts) (now statements) «statements_kept» (target .«declarators_kept») (target .tree .0) (target .«nodes_used») ⌝ }
+    requires { ⌜ 4 * target .«declarators_kept» ≤ length (now declarators) ⌝ }
+    requires { ⌜ target .«declarators_kept» ≤ length (now starts) ⌝ }
+    requires { ⌜ 4 * «statements_kept» ≤ length (now statements) ⌝ }
+    ensures { λ r. ⌜ SearchesStatements (contextOf (read (now (file .entry)))) (now (nodes .entry)) (now (nodes .exit)) (now (declarators .entry)) (now (starts .entry)) (now (statements .entry)) (now (statements .exit)) «statements_kept» (target .«declarators_kept») (target .tree .0) (target .«nodes_used») r ⌝ }
 {
     let literal_only = h.options / 8 % 2 == 1;
-    let mut kept = count;
-    let mut left = many;
-    let mut begin = start;
-    let mut end = used;
+    let mut kept = statements_kept;
+    let mut left = target.declarators_kept;
+    let mut tree = target.tree;
+    let mut nodes_used = target.nodes_used;
     let mut folds: usize = 0;
+    let mut looks: usize = 0;
     while 0 < kept {
         let at = 4 * (kept - 1);
         let s = statement_at(statements, at);
@@ -120,35 +121,40 @@ fn from_statements(
         if 2 < s.kind {
             break;
         }
-        let low = left - size(s.declarators);
+        let first = left - size(s.declarators);
+        let target = Target {
+            declarators_kept: left,
+            tree,
+            nodes_used,
+        };
         let r = substitute_single_use_symbol_in_expression_from_declarators(
             file,
             h,
             nodes,
             declarators,
             starts,
-            low,
-            left,
-            begin,
-            end,
+            first,
+            target,
             literal_only,
         );
-        left = r.many;
-        begin = r.start;
-        end = r.used;
+        left = r.declarators_kept;
         folds += r.folds;
+        looks += r.looks;
+        tree = r.tree;
+        nodes_used = r.nodes_used;
         // one without declarators is dropped
-        if low < left {
-            put_declaration(statements, at, s.kind, left - low);
+        if first < left {
+            put_declaration(statements, at, s.kind, left - first);
             break;
         }
         kept -= 1;
     }
     InStatement {
-        count: kept,
-        many: left,
-        start: begin,
-        used: end,
+        statements_kept: kept,
+        declarators_kept: left,
+        tree,
+        nodes_used,
         folds,
+        looks,
     }
 }

@@ -35,7 +35,7 @@ pub block-written : (at : ℕ) (bs block ys : List ℕ) → ys ≡ take (length 
 block-written at bs block ys e = overwritten at (length block) bs block ys refl (rw take-length at e)
 
 -- two blocks, written over one of their length
-two-written : {l l1 l2 : List ℕ} (a b : ℕ) (first second : List ℕ) → b ≡ a + length first → Overwrites l l1 a first → Overwrites l1 l2 b second
+pub two-written : {l l1 l2 : List ℕ} (a b : ℕ) (first second : List ℕ) → b ≡ a + length first → Overwrites l l1 a first → Overwrites l1 l2 b second
     → (p v s : List ℕ) → l ≡ p ++ (v ++ s) → length p ≡ a → length v ≡ length first + length second → l2 ≡ p ++ (first ++ (second ++ s))
 two-written a b first second eb o1 o2 p v s e hp hv =
     let n = length first in
@@ -45,22 +45,22 @@ two-written a b first second eb o1 o2 p v s e hp hv =
     ∙ append-assoc p first (second ++ s)
 
 -- a tag moves up by two records, over a name and one that is free, and two others are written in its place
-tag-moved : {b1 b2 b3 b4 : List ℕ} (a b position to n : ℕ) (p tag name w s : List ℕ) → b1 ≡ (p ++ (tag ++ name)) ++ (w ++ s) → length p ≡ a → a + length tag ≡ b
-    → length name ≡ 16 → length w ≡ 16 → to ≡ a + 32 → n ≡ b - a → Copies b1 b2 to a n
-    → Overwrites b2 b3 a (workBytes (sequenceRecord position)) → Overwrites b3 b4 (a + 16) (workBytes (literalRecord position))
+tag-moved : {b1 b2 b3 b4 : List ℕ} (a b position to n next : ℕ) (p tag name w s : List ℕ) → b1 ≡ (p ++ (tag ++ name)) ++ (w ++ s) → length p ≡ a → a + length tag ≡ b
+    → length name ≡ 16 → length w ≡ 16 → to ≡ a + 32 → n ≡ b - a → next ≡ a + 16 → Copies b1 b2 to a n
+    → Overwrites b2 b3 a (workBytes (sequenceRecord position)) → Overwrites b3 b4 next (workBytes (literalRecord position))
     → b4 ≡ p ++ (workBytes (sequenceRecord position) ++ (workBytes (literalRecord position) ++ (tag ++ s)))
-tag-moved {b1} {b2} a b position to n p tag name w s e hp ht hn hw et en k o1 o2 =
+tag-moved {b1} {b2} a b position to n next p tag name w s e hp ht hn hw et en ex k o1 o2 =
     let h : Blocks b1 a b (b + 32) p tag (name ++ w) s = record { is = e ∙ simp append-assoc; starts = hp; seam = ht; ends = omega (arith, length-append name w) } in
     let one = work-length (sequenceRecord position) in
     let other = work-length (literalRecord position) in
-    two-written a (a + 16) (workBytes (sequenceRecord position)) (workBytes (literalRecord position)) (omega (arith, one)) o1 o2 p (left-over h to) (tag ++ s)
+    two-written a next (workBytes (sequenceRecord position)) (workBytes (literalRecord position)) (omega (arith, one)) o1 o2 p (left-over h to) (tag ++ s)
     (shifted-up h b2 to n (omega arith) en k) hp (omega (arith, one, other, left-over-length h to (omega arith)))
 
 -- a tag that is kept indirect: first what is behind the name moves up by one
-pub kept-indirect : (a b c position : ℕ) {b0 b1 b2 b3 b4 : List ℕ} (from to n tag-to tag-n : ℕ) → from ≡ b + 16 → to ≡ b + 32 → n ≡ c - from → tag-to ≡ a + 32 → tag-n ≡ b - a
+pub kept-indirect : (a b c position : ℕ) {b0 b1 b2 b3 b4 : List ℕ} (from to n tag-to tag-n next : ℕ) → from ≡ b + 16 → to ≡ b + 32 → n ≡ c - from → tag-to ≡ a + 32 → tag-n ≡ b - a → next ≡ a + 16
     → Copies b0 b1 to from n → Copies b1 b2 tag-to a tag-n
-    → Overwrites b2 b3 a (workBytes (sequenceRecord position)) → Overwrites b3 b4 (a + 16) (workBytes (literalRecord position))
+    → Overwrites b2 b3 a (workBytes (sequenceRecord position)) → Overwrites b3 b4 next (workBytes (literalRecord position))
     → KeepsIndirect b0 b4 a b c position
-kept-indirect a b c position {b0} {b1} from to n tag-to tag-n ef et en eg em k1 k2 o1 o2 = λ p tag name after free s e hp ht hn ha hf.
+kept-indirect a b c position {b0} {b1} from to n tag-to tag-n next ef et en eg em ex k1 k2 o1 o2 = λ p tag name after free s e hp ht hn ha hf.
     let h : Blocks b0 from c (c + 16) (p ++ (tag ++ name)) after free s = record { is = e ∙ simp append-assoc; starts = omega (arith, length-append p (tag ++ name), length-append tag name); seam = omega arith; ends = omega arith } in
-    tag-moved a b position tag-to tag-n p tag name (left-over h to) (after ++ s) (shifted-up h b1 to n (omega arith) en k1) hp ht hn (omega (arith, left-over-length h to (omega arith))) eg em k2 o1 o2
+    tag-moved a b position tag-to tag-n next p tag name (left-over h to) (after ++ s) (shifted-up h b1 to n (omega arith) en k1) hp ht hn (omega (arith, left-over-length h to (omega arith))) eg em ex k2 o1 o2

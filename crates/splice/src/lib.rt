@@ -8,12 +8,12 @@ ghost use mathlib.Core.Path.{_≡_};
 ghost use Prim.Native.Nat.{_+_, _*_, _≤_};
 ghost use lib.ListN.{length};
 ghost use Rattle.splice.specs.Splice.{HoldsName, Splices};
-use crate::blocks::keep_indirect;
+use crate::blocks::preserve_indirect_access;
 use crate::blocks::put_position;
 use crate::rotate::rotate;
 use crate::shift::move_down;
 use records::layout::NodeId;
-use records::layout::node_at;
+use table::work_node;
 
 // The initializer stands from `from` to `target`, and `place`, behind it, has the name's record; `indirect` is whether the
 // name is a tag that must stay indirect. Returns how many of the nodes are in use then.
@@ -22,31 +22,24 @@ pub fn splice(
     from: NodeId,
     target: NodeId,
     place: NodeId,
-    used: usize,
+    nodes_used: usize,
     indirect: bool,
 ) -> usize
-    requires { ⌜ HoldsName (now nodes) (from .0) (target .0) (place .0) used ⌝ }
-    requires { ⌜ (indirect ≡ true → 16 * used + 16 ≤ length (now nodes)) ⌝ }
-    ensures { λ r. ⌜ Splices (now (nodes .entry)) (now (nodes .exit)) (from .0) (target .0) (place .0) used indirect r ⌝ }
+    requires { ⌜ HoldsName (now nodes) (from .0) (target .0) (place .0) «nodes_used» ⌝ }
+    requires { ⌜ (indirect ≡ true → 16 * «nodes_used» + 16 ≤ length (now nodes)) ⌝ }
+    ensures { λ r. ⌜ Splices (now (nodes .entry)) (now (nodes .exit)) (from .0) (target .0) (place .0) «nodes_used» indirect r ⌝ }
     ensures { λ _. ⌜ length (now (nodes .exit)) ≡ length (now (nodes .entry)) ⌝ }
 {
-    let first = 16 * from.0;
-    let found = 16 * place.0;
-    let name = node_at(nodes, found);
+    let name = work_node(nodes, place);
     let position = name.position;
-    put_position(nodes, first, position);
-    rotate(nodes, from.0, target.0, place.0);
+    put_position(nodes, from, position);
+    rotate(nodes, from, target, place);
     if indirect {
-        keep_indirect(
-            nodes,
-            from.0 + (place.0 - target.0),
-            place.0,
-            used,
-            position,
-        );
-        return used + 1;
+        let tag = NodeId(from.0 + (place.0 - target.0));
+        preserve_indirect_access(nodes, tag, place, NodeId(nodes_used), position);
+        return nodes_used + 1;
     }
-    let after = place.0 + 1;
-    move_down(nodes, place.0, after, used - after);
-    used - 1
+    let after = NodeId(place.0 + 1);
+    move_down(nodes, place, after, nodes_used - after.0);
+    nodes_used - 1
 }

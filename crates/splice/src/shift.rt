@@ -3,6 +3,7 @@ ghost use Prim.Native.Nat.{_+_, _*_, _≤_};
 ghost use lib.ListN.{length};
 ghost use Rattle.splice.specs.Blocks.{Overwrites};
 ghost use Rattle.splice.specs.Copies.{Copies};
+use records::layout::NodeId;
 
 // Writes a block over the bytes from `at` on.
 pub(crate) fn put_block(nodes: &mut [u8], at: usize, block: &[u8])
@@ -13,37 +14,37 @@ pub(crate) fn put_block(nodes: &mut [u8], at: usize, block: &[u8])
 }
 
 // Writes the record of node `from` over that of node `to`, all its bytes at once.
-fn copy_record(nodes: &mut [u8], to: usize, from: usize)
-    requires { ⌜ (16 * to + 16 ≤ length (now nodes)) × (16 * from + 16 ≤ length (now nodes)) ⌝ }
-    ensures { λ _. ⌜ Copies (now (nodes .entry)) (now (nodes .exit)) (16 * to) (16 * from) 16 ⌝ }
+fn copy_record(nodes: &mut [u8], to: NodeId, from: NodeId)
+    requires { ⌜ (16 * to .0 + 16 ≤ length (now nodes)) × (16 * from .0 + 16 ≤ length (now nodes)) ⌝ }
+    ensures { λ _. ⌜ Copies (now (nodes .entry)) (now (nodes .exit)) (16 * to .0) (16 * from .0) 16 ⌝ }
 {
-    let start = 16 * from;
+    let start = 16 * from.0;
     let end = start + 16;
     let mut saved = [0u8; 16];
     bytes::copy(&nodes[start..end], &mut saved);
-    put_block(nodes, 16 * to, &saved);
+    put_block(nodes, 16 * to.0, &saved);
 }
 
 // Moves records towards the front.
-pub(crate) fn move_down(nodes: &mut [u8], to: usize, from: usize, many: usize)
-    requires { ⌜ (to ≤ from) × (16 * from + 16 * many ≤ length (now nodes)) ⌝ }
-    ensures { λ _. ⌜ Copies (now (nodes .entry)) (now (nodes .exit)) (16 * to) (16 * from) (16 * many) ⌝ }
+pub(crate) fn move_down(nodes: &mut [u8], to: NodeId, from: NodeId, many: usize)
+    requires { ⌜ (to .0 ≤ from .0) × (16 * from .0 + 16 * many ≤ length (now nodes)) ⌝ }
+    ensures { λ _. ⌜ Copies (now (nodes .entry)) (now (nodes .exit)) (16 * to .0) (16 * from .0) (16 * many) ⌝ }
 {
     let mut i = 0;
     while i < many {
-        copy_record(nodes, to + i, from + i);
+        copy_record(nodes, NodeId(to.0 + i), NodeId(from.0 + i));
         i += 1;
     }
 }
 
 // Moves records towards the end: the last one first.
-pub(crate) fn move_up(nodes: &mut [u8], to: usize, from: usize, many: usize)
-    requires { ⌜ (from ≤ to) × (16 * to + 16 * many ≤ length (now nodes)) ⌝ }
-    ensures { λ _. ⌜ Copies (now (nodes .entry)) (now (nodes .exit)) (16 * to) (16 * from) (16 * many) ⌝ }
+pub(crate) fn move_up(nodes: &mut [u8], to: NodeId, from: NodeId, many: usize)
+    requires { ⌜ (from .0 ≤ to .0) × (16 * to .0 + 16 * many ≤ length (now nodes)) ⌝ }
+    ensures { λ _. ⌜ Copies (now (nodes .entry)) (now (nodes .exit)) (16 * to .0) (16 * from .0) (16 * many) ⌝ }
 {
     let mut i = many;
     while 0 < i {
         i -= 1;
-        copy_record(nodes, to + i, from + i);
+        copy_record(nodes, NodeId(to.0 + i), NodeId(from.0 + i));
     }
 }

@@ -1,50 +1,42 @@
-// The search itself: a node, and a row of its children.
-ghost use mathlib.Core.Path.{_≡_};
+// The walk: a node, from its children, and a row of these.
 ghost use mathlib.Core.Bool.{_&&_, not};
+ghost use mathlib.Core.Path.{_≡_};
+ghost use Prim.Native.Nat.{_+_, _*_, _≤_, _<_};
 ghost use lib.ListN.{length};
 ghost use lib.Dec.{eqb};
 ghost use Rattle.records.specs.Record.{headerOf};
+ghost use Rattle.records.specs.Tree.{nodeOf};
 ghost use Rattle.records.specs.File.{fileLength, read};
 ghost use Rattle.walk.specs.Context.{contextOf};
+ghost use Rattle.walk.specs.Shape.{cleared};
 ghost use Rattle.plans.specs.Described.{Known};
-ghost use Rattle.plans.specs.Plans.{isNothing};
+ghost use Rattle.plans.specs.Arms.{isNothing};
 ghost use Rattle.plans.specs.Search.{Searchable, SearchableRow, Searches, SearchesRow};
-ghost use Rattle.links.specs.Above.{SomeChildSearched, SearchesBehind};
+ghost use Rattle.substitute.specs.Node.{OfChildren};
+use crate::row::Row;
+use crate::row::row_behind;
+use crate::small::pass_small;
 use effects::has_effect;
 use effects::pass_row;
-use links::above::Before;
-use links::above::above_ended;
-use links::above::node_above;
-use links::descent::behind_links;
-use links::leaf::is_leaf;
-use links::leaf::leaf_effect;
-use links::leaf::leaf_looks;
-use links::leaf::moves_leaf;
-use links::leaf::of_leaf;
-use links::link::is_link;
-use links::link::link_plan;
-use links::link::plan_behind;
-use links::node::is_specific_id;
-use links::node::moves_link;
-use links::node::of_answered;
-use links::node::of_passed;
-use links::node::own_looks;
-use links::outcome::either;
-use links::outcome::found;
-use links::outcome::gathered;
-use links::outcome::passed;
-use links::outcome::stopped;
-use plans::begin::begin;
-use plans::plan::Plan;
-use plans::plan::is_branches;
-use plans::plan::is_nothing;
-use plans::plan::next_plan;
+use plans::arms::Begun;
+use plans::arms::Plan;
+use plans::arms::begin;
+use plans::arms::is_branches;
+use plans::arms::is_nothing;
+use plans::arms::is_specific_id;
+use plans::arms::may_pass;
+use plans::arms::own_looks;
 use plans::sought::Sought;
+use plans::walked::Answer;
 use plans::walked::Walked;
-use plans::walked::is_passed;
+use plans::walked::either;
 use plans::walked::is_replaced;
-use records::layout::Header;
+use plans::walked::passed;
+use plans::walked::replaced;
+use plans::walked::stopped;
 use records::layout::NodeId;
+use records::layout::NodeRecord;
+use table::set_flags;
 use table::work_node;
 
 // One child is left, and the plan enters it.
@@ -54,193 +46,150 @@ fn is_one(left: usize, plan: Plan) -> bool
     (left == 1) & !is_nothing(plan)
 }
 
-// The search of the tree at `at`.
+// The flags of a node whose child gave an answer: an ObjectProperty is a shorthand no longer.
+fn cleared_flags(n: NodeRecord) -> u8
+    ensures { λ r. ⌜ r ≡ cleared (nodeOf n) .flags ⌝ }
+{
+    let shorthand = (n.kind == 26) & (n.flags / 16 % 2 == 1);
+    let gains = (n.flags / 64 % 2 == 1) & !(n.flags / 32 % 2 == 1);
+    if shorthand {
+        if gains {
+            return n.flags - 16 + 32;
+        }
+        return n.flags - 16;
+    }
+    n.flags
+}
+
+// Where the children are passed, by whether the node may be; else their answer is the node's own.
+fn of_children(
+    file: &[u8],
+    nodes: &mut [u8],
+    at: NodeId,
+    n: NodeRecord,
+    g: Begun,
+    s: Sought,
+    children: Walked,
+) -> Walked
+    requires { ⌜ length (now file) ≡ fileLength (headerOf (now file)) ⌝ }
+    requires { ⌜ 16 * at .0 + 16 ≤ length (now nodes) ⌝ }
+    requires { ⌜ children .looks + 1 < 18446744073709551616 ⌝ }
+    ensures { λ r. ⌜ OfChildren (contextOf (read (now (file .entry)))) (now (nodes .entry)) (now (nodes .exit)) (at .0) n g s children r ⌝ }
+{
+    let looks = own_looks(n) + children.looks;
+    let answer = children.answer;
+    let end = children.end;
+    match answer {
+        Answer::Passed(acts) => {
+            let shape = g.shape;
+            let own = has_effect(n);
+            let below = g.effect | acts;
+            if may_pass(file, shape, n, s, own, below, g.stops) {
+                return passed(end, own | below, looks);
+            }
+            stopped(end, looks)
+        }
+        Answer::Stopped => {
+            set_flags(nodes, at, cleared_flags(n));
+            stopped(end, looks)
+        }
+        Answer::Replaced(place, indirect) => {
+            set_flags(nodes, at, cleared_flags(n));
+            Walked {
+                answer: Answer::Replaced(place, indirect),
+                end,
+                looks,
+            }
+        }
+    }
+}
+
+// The search of the tree at `at`: of its children by the plan of its arm, then of the node by what they said.
 pub fn substitute_single_use_symbol_in_expression(
     file: &[u8],
-    h: Header,
     nodes: &mut [u8],
     at: NodeId,
     s: Sought,
 ) -> Walked
-    requires { ⌜ h ≡ headerOf (now file) ⌝ }
-    requires { ⌜ length (now file) ≡ fileLength h ⌝ }
-    requires { ⌜ Searchable (now nodes) (at .0) ⌝ }
-    requires { ⌜ Known s ⌝ }
-    ensures { λ r. ⌜ Searches (contextOf (read (now (file .entry)))) s (now (nodes .entry)) (now (nodes .exit)) (at .0) r ⌝ }
-{
-    let d = behind_links(file, h, nodes, at, s);
-    let inner = d.node;
-    let below = walk_node(file, h, nodes, inner, s);
-    let up = above_ended(nodes, at, inner, below);
-    let top = up.node;
-    let mut w = gathered(false, up.looks, below);
-    let mut i = top.0;
-    let mut looks = d.looks - up.looks;
-    let answer = w.answer;
-    let mut replaced = is_replaced(answer);
-    while !replaced & (at.0 < i) {
-        let b = node_above(nodes, NodeId(i));
-        w = behind_child(file, h, nodes, b, NodeId(i), s, w);
-        let link = b.link;
-        i = link.0;
-        looks -= b.own + b.looks;
-        let answer = w.answer;
-        replaced = is_replaced(answer);
-    }
-    gathered(false, looks, w)
-}
-
-// The search of a link, from that of its child `child`, where the name was not found; what stands before that child is passed.
-fn behind_child(
-    file: &[u8],
-    h: Header,
-    nodes: &mut [u8],
-    b: Before,
-    child: NodeId,
-    s: Sought,
-    w: Walked,
-) -> Walked
-    requires { ⌜ h ≡ headerOf (now file) ⌝ }
-    requires { ⌜ length (now file) ≡ fileLength h ⌝ }
-    requires { ⌜ Known s ⌝ }
-    requires { ⌜ SomeChildSearched (contextOf (read (now file))) s (now nodes) b (child .0) w ⌝ }
-    ensures { λ r. ⌜ SearchesBehind (contextOf (read (now (file .entry)))) s (now (nodes .entry)) (now (nodes .exit)) b (child .0) w r ⌝ }
-{
-    let at = b.link;
-    let n = work_node(nodes, at);
-    let left = b.left;
-    let now = plan_behind(link_plan(n, s), b.before);
-    let answer = w.answer;
-    let end = w.next;
-    if !is_passed(answer) {
-        if is_branches(now) {
-            let others = walk_list(file, h, nodes, end, left, Plan::All, s);
-            let children = gathered(b.effect, b.looks, either(w, others));
-            return of_answered(nodes, at, n, false, children);
-        }
-        let others = pass_row(nodes, end, left);
-        let last = others.next;
-        let children = gathered(b.effect, b.looks, stopped(last, w.looks));
-        return of_answered(nodes, at, n, false, children);
-    }
-    if left == 0 {
-        return of_passed(file, h, n, false, s, false, gathered(b.effect, b.looks, w));
-    }
-    let plan = next_plan(now);
-    let rest = walk_list(file, h, nodes, end, left, plan, s);
-    let children = gathered(b.effect | w.effect, b.looks + w.looks, rest);
-    let last = rest.answer;
-    if is_passed(last) {
-        return of_passed(file, h, n, false, s, false, children);
-    }
-    of_answered(nodes, at, n, false, children)
-}
-
-// The search of a node that is no link.
-fn walk_node(file: &[u8], h: Header, nodes: &mut [u8], at: NodeId, s: Sought) -> Walked
-    requires { ⌜ h ≡ headerOf (now file) ⌝ }
-    requires { ⌜ length (now file) ≡ fileLength h ⌝ }
+    requires { ⌜ length (now file) ≡ fileLength (headerOf (now file)) ⌝ }
     requires { ⌜ Searchable (now nodes) (at .0) ⌝ }
     requires { ⌜ Known s ⌝ }
     ensures { λ r. ⌜ Searches (contextOf (read (now (file .entry)))) s (now (nodes .entry)) (now (nodes .exit)) (at .0) r ⌝ }
 {
     let n = work_node(nodes, at);
     if is_specific_id(n, s) {
-        return found(at, false, 1);
+        return replaced(at, false, 1);
     }
-    let g = begin(file, h, nodes, at, n, s);
+    let g = begin(file, nodes, at, n, s);
     if g.indirect {
-        return found(NodeId(at.0 + 1), true, 2);
+        return replaced(NodeId(at.0 + 1), true, 2);
     }
-    let plan = g.plan;
     let next = g.next;
-    if is_one(g.left, plan) {
-        let child = substitute_single_use_symbol_in_expression(file, h, nodes, next, s);
-        let answer = child.answer;
-        if is_passed(answer) {
-            return of_passed(file, h, n, g.stops, s, g.effect, child);
-        }
-        return of_answered(nodes, at, n, g.effect, child);
-    }
-    let children = walk_list(file, h, nodes, next, g.left, plan, s);
-    let answer = children.answer;
-    if is_passed(answer) {
-        return of_passed(file, h, n, g.stops, s, g.effect, children);
-    }
-    of_answered(nodes, at, n, g.effect, children)
-}
-
-// The same of a child in a list: a leaf needs no call, and neither does a link whose only child is a leaf that is passed.
-fn walk_item(file: &[u8], h: Header, nodes: &mut [u8], at: NodeId, s: Sought) -> Walked
-    requires { ⌜ h ≡ headerOf (now file) ⌝ }
-    requires { ⌜ length (now file) ≡ fileLength h ⌝ }
-    requires { ⌜ Searchable (now nodes) (at .0) ⌝ }
-    requires { ⌜ Known s ⌝ }
-    ensures { λ r. ⌜ Searches (contextOf (read (now (file .entry)))) s (now (nodes .entry)) (now (nodes .exit)) (at .0) r ⌝ }
-{
-    let n = work_node(nodes, at);
-    if is_leaf(n) & !is_specific_id(n, s) {
-        return of_leaf(file, h, at, n, s);
-    }
-    if (n.children == 1) & is_link(n, s) {
-        let child = work_node(nodes, NodeId(at.0 + 1));
-        let effect = has_effect(n) | leaf_effect(child);
-        let passes = is_leaf(child) & !is_specific_id(child, s) & moves_leaf(child, s);
-        if passes & moves_link(n, s, effect) {
-            let looks = own_looks(n) + leaf_looks(child);
-            return passed(NodeId(at.0 + 2), effect, looks);
-        }
-    }
-    substitute_single_use_symbol_in_expression(file, h, nodes, at, s)
+    let plan = g.plan;
+    let children = if is_one(g.left, plan) {
+        substitute_single_use_symbol_in_expression(file, nodes, next, s)
+    } else {
+        walk_list(file, nodes, next, g.left, plan, s)
+    };
+    of_children(file, nodes, at, n, g, s, children)
 }
 
 // The search of the `many` trees from `at` on, by a plan.
 fn walk_list(
     file: &[u8],
-    h: Header,
     nodes: &mut [u8],
     at: NodeId,
     many: usize,
     plan: Plan,
     s: Sought,
 ) -> Walked
-    requires { ⌜ h ≡ headerOf (now file) ⌝ }
-    requires { ⌜ length (now file) ≡ fileLength h ⌝ }
+    requires { ⌜ length (now file) ≡ fileLength (headerOf (now file)) ⌝ }
     requires { ⌜ SearchableRow (now nodes) (at .0) many ⌝ }
     requires { ⌜ Known s ⌝ }
     ensures { λ r. ⌜ SearchesRow (contextOf (read (now (file .entry)))) s (now (nodes .entry)) (now (nodes .exit)) (at .0) many plan r ⌝ }
 {
-    let mut next = at;
-    let mut left = many;
-    let mut now = plan;
-    let mut effect = false;
-    let mut looks: usize = 0;
-    while 0 < left {
+    let mut r = Row {
+        next: at,
+        left: many,
+        plan,
+        effect: false,
+        looks: 0,
+    };
+    loop {
+        r = pass_small(file, nodes, r, s);
+        let next = r.next;
+        let left = r.left;
+        let now = r.plan;
+        if left == 0 {
+            return passed(next, r.effect, r.looks);
+        }
         if is_nothing(now) {
-            let all = pass_row(nodes, next, left);
-            let end = all.next;
-            return gathered(effect, looks, passed(end, all.effect, 0));
+            let others = pass_row(nodes, next, left);
+            let end = others.next;
+            return passed(end, r.effect | others.effect, r.looks);
         }
-        let first = walk_item(file, h, nodes, next, s);
+        let first = substitute_single_use_symbol_in_expression(file, nodes, next, s);
         let answer = first.answer;
-        let end = first.next;
-        if is_replaced(answer) {
-            return gathered(effect, looks, first);
-        }
-        if !is_passed(answer) {
+        let end = first.end;
+        let looks = r.looks + first.looks;
+        let Answer::Passed(acts) = answer else {
+            if is_replaced(answer) {
+                return Walked { answer, end, looks };
+            }
             if is_branches(now) {
-                let others = walk_list(file, h, nodes, end, left - 1, Plan::All, s);
-                return gathered(effect, looks, either(first, others));
+                let others = walk_list(file, nodes, end, left - 1, Plan::All, s);
+                let last = others.end;
+                let other = others.answer;
+                return Walked {
+                    answer: either(other),
+                    end: last,
+                    looks: looks + others.looks,
+                };
             }
             let others = pass_row(nodes, end, left - 1);
             let last = others.next;
-            return gathered(effect, looks, stopped(last, first.looks));
-        }
-        effect = effect | first.effect;
-        looks += first.looks;
-        next = end;
-        left -= 1;
-        now = next_plan(now);
+            return stopped(last, looks);
+        };
+        r = row_behind(r, end, acts, looks);
     }
-    gathered(effect, looks, passed(next, false, 0))
 }

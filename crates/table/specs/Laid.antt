@@ -1,9 +1,12 @@
 -- Trees as they stand in the work table: the records of their preorder, 16 bytes each.
-use Prim.Native.Nat.{ℕ, _*_}
+use Prim.Native.Nat.{ℕ, _-_, _*_, _/_}
 use mathlib.Core.List.{List, _++_}
 use mathlib.Core.Path.{_≡_}
 use lib.ListN.{length}
-use Rattle.records.specs.Tree.{Tree, Trees, node, none, more, count, recordOf}
+use Rattle.records.specs.Record.{nodeAt}
+use Rattle.records.specs.Records.{recordsFrom}
+use Rattle.records.specs.Tree.{Tree, Trees, node, none, more, count, firsts, recordOf, rowOf}
+use Rattle.records.specs.File.{firstTree}
 use Rattle.table.specs.Table.{workBytes}
 
 -- a tree, and trees in a row, before other bytes
@@ -30,3 +33,14 @@ RowStands table at many = (pre : List ℕ) × (ts : Trees) × (rest : List ℕ) 
 
 abbrev pub Stands : List ℕ → ℕ → Type 0
 Stands table at = (pre : List ℕ) × (t : Tree) × (rest : List ℕ) × TreeAt table at t pre rest
+
+-- the trees that the table's records stand for, from node number `at` on
+unfoldable pub treesAt : List ℕ → ℕ → Trees
+treesAt table at = rowOf (recordsFrom (nodeAt table) 16 (length table / 16 - at) (16 * at))
+
+-- the first of them, and so many of them
+unfoldable pub treeAt : List ℕ → ℕ → Tree
+treeAt table at = firstTree (treesAt table at)
+
+unfoldable pub rowAt : List ℕ → ℕ → ℕ → Trees
+rowAt table at many = firsts many (treesAt table at)

@@ -86,17 +86,17 @@ fn put_record(out: &mut [u8], table: &[u8], at: usize)
     bytes::copy(&record, out);
 }
 
-// The node part of a file: lays the table's first `count` records down at the start of `out`.
+// The node part of a file: lays the table's first `count` records down at the start of `out`, each behind those before it.
 pub fn put_nodes(out: &mut [u8], table: &[u8], count: usize)
     requires { ⌜ 16 * count ≤ length (now table) ⌝ }
     requires { ⌜ 12 * count ≤ length (now out) ⌝ }
     ensures { λ _. ⌜ now (out .exit) ≡ bytesOf nodeBytes (recordsFrom (nodeAt (now (table .entry))) 16 count 0) ++ drop (12 * count) (now (out .entry)) ⌝ }
 {
-    let mut i = count;
-    while 0 < i {
-        i -= 1;
+    let mut i = 0;
+    while i < count {
         let at = 12 * i;
         put_record(&mut out[at..], table, 16 * i);
+        i += 1;
     }
 }
 

@@ -1,6 +1,6 @@
 -- The row of trees behind the nodes that a loop has still to take, and the stack of its entries. Assumes nothing.
 use mathlib.Core.Path.{_≡_, sym, ap, _∙_}
-use mathlib.Core.Bool.{Bool, true, _&&_}
+use mathlib.Core.Bool.{true, _&&_}
 use mathlib.Core.List.{List}
 use Prim.Native.Nat.{ℕ, _+_, _-_, _*_, _≤_, _<_, min}
 use native.Mathlib.Omega.{arith}
@@ -25,7 +25,7 @@ pushed-stack n stack top t e h ee et =
     ∙ rw (et, ee, ← drop-drop (min (n .children) (length stack - top)) top stack, found stack (n .children) top, drop-found (n .children) (drop top stack))
 
 module _ {readAt : ℕ → NodeRecord} {len n from : ℕ} where
-  pub growing-none : {stack : List ℕ} (m : ℕ) → m ≡ length stack → Growing readAt len n from stack true m n
+  pub growing-none : {stack : List ℕ} (m : ℕ) → m ≡ length stack → Growing readAt len n from stack m n
   unfolding recordsFrom rowOf entries closed allPlaced
   growing-none {stack} m e = let none : n - n ≡ 0 = omega arith in
       record {
@@ -36,12 +36,12 @@ module _ {readAt : ℕ → NodeRecord} {len n from : ℕ} where
         judged = rw none;
       }
 
-  pub growing-more : {stack : List ℕ} {good : Bool} {top i : ℕ} (x : NodeRecord) (g : Bool) (e t j : ℕ)
-      → Growing readAt len n from stack good top i → i ≡ j + 1 → n ≤ length stack → x ≡ readAt (from + len * j)
-      → g ≡ childrenStand x (drop top stack) → e ≡ nodeEntry x (drop top stack) → t + 1 ≡ top + min (x .children) (length stack - top)
-      → Growing readAt len n from (set stack t e) (g && good) t j
+  pub growing-more : {stack : List ℕ} {top i : ℕ} (x : NodeRecord) (e t j : ℕ)
+      → Growing readAt len n from stack top i → i ≡ j + 1 → n ≤ length stack → x ≡ readAt (from + len * j)
+      → childrenStand x (drop top stack) ≡ true → e ≡ nodeEntry x (drop top stack) → t + 1 ≡ top + min (x .children) (length stack - top)
+      → Growing readAt len n from (set stack t e) t j
   unfolding rowOf
-  growing-more {stack} {good} {top} {i} x g e t j p ei long ex eg ee et = record {
+  growing-more {stack} {top} {i} x e t j p ei long ex eg ee et = record {
     within = omega arith;
     inside = omega (arith, length-set stack t e);
     room = omega (arith, length-set stack t e);
@@ -50,13 +50,13 @@ module _ {readAt : ℕ → NodeRecord} {len n from : ℕ} where
         (pushed-stack x stack top t e (omega arith) ee et ∙ ap (pushed x) (p .same) ∙ sym (entries-grown x _));
     judged =
         rw (one-more readAt len n from i j ei (p .within), ← ex)
-        (rw (eg, p .same, p .judged) (grown-good x _));
+        (sym (grown-good x _) ∙ rw (← p .same, eg, p .judged));
   }
 
-  pub growing-all : {stack : List ℕ} {good : Bool} {top i : ℕ} → Growing readAt len n from stack good top i → i ≤ 0
+  pub growing-all : {stack : List ℕ} {top i : ℕ} → Growing readAt len n from stack top i → i ≤ 0
       → drop top stack ≡ entries (rowOf (recordsFrom readAt len n from))
   growing-all {i = i} p h = p .same ∙ ap (λ (rs : List NodeRecord). entries (rowOf rs)) (all-left readAt len n from i h)
 
-  pub growing-good : {stack : List ℕ} {good : Bool} {top i : ℕ} → Growing readAt len n from stack good top i → i ≤ 0
-      → good ≡ (closed (recordsFrom readAt len n from) && allPlaced (rowOf (recordsFrom readAt len n from)))
-  growing-good {i = i} p h = p .judged ∙ ap (λ (rs : List NodeRecord). closed rs && allPlaced (rowOf rs)) (all-left readAt len n from i h)
+  pub growing-good : {stack : List ℕ} {top i : ℕ} → Growing readAt len n from stack top i → i ≤ 0
+      → (closed (recordsFrom readAt len n from) && allPlaced (rowOf (recordsFrom readAt len n from))) ≡ true
+  growing-good {i = i} p h = sym (ap (λ (rs : List NodeRecord). closed rs && allPlaced (rowOf rs)) (all-left readAt len n from i h)) ∙ p .judged

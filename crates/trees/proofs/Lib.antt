@@ -2,3 +2,4 @@
 pub mod Rows
 pub mod Stacks
 pub mod Growth
+pub mod Standings

@@ -1,13 +1,12 @@
 -- A stack that grows downward, and the entries on it. Assumes nothing.
 use mathlib.Core.Path.{_≡_, refl, sym, ap, _∙_}
-use mathlib.Core.Bool.{false}
 use mathlib.Core.List.{List, [], _∷_}
 use Prim.Native.Nat.{ℕ, zero, suc, _+_, _-_, _≤_, _<_, min}
 use native.Mathlib.Omega.{arith}
 use lib.ListN.{length, getD, take, drop, set, length-take, length-drop}
 use lib.Seq.{lt-length-set, drop-cons, drop-set-lt, getD-set-same}
 use Rattle.records.specs.Records.{recordsFrom}
-use Rattle.trees.specs.Stack.{entryAt, entryLoose, firstLoose}
+use Rattle.trees.specs.Stack.{entryAt}
 
 -- the entries that a loop passes are a part of the stack
 pub entries-part : (stack : List ℕ) (k top : ℕ) → top + k ≤ length stack → recordsFrom (entryAt stack) 1 k top ≡ take k (drop top stack)
@@ -18,11 +17,6 @@ entries-part stack (suc k) top h =
     rw (drop-cons stack top 0 (omega arith), e) (ap (λ (es : List ℕ). getD stack top 0 ∷ es) (entries-part stack k (top + 1) (omega arith)))
 
 -- as many as there are, of k
-pub take-found : {A : Type 0} (k : ℕ) (xs : List A) → take (length (take k xs)) xs ≡ take k xs
-take-found zero xs = refl
-take-found (suc k) [] = refl
-take-found (suc k) (x ∷ xs) = ap (λ (ys : List _). x ∷ ys) (take-found k xs)
-
 pub drop-found : {A : Type 0} (k : ℕ) (xs : List A) → drop (length (take k xs)) xs ≡ drop k xs
 drop-found zero xs = refl
 drop-found (suc k) [] = refl
@@ -38,22 +32,3 @@ laid stack top e h =
     let n : suc top ≡ top + 1 = omega arith in
     drop-cons (set stack top e) top 0 (lt-length-set stack top e h)
     ∙ rw (getD-set-same stack top e 0 h, n, drop-set-lt (top + 1) stack top e (omega arith))
-
--- the first of k entries
-pub first-some : (stack : List ℕ) (k top : ℕ) → 0 < k → entryLoose (getD stack top 0) ≡ firstLoose (recordsFrom (entryAt stack) 1 k top)
-unfolding firstLoose recordsFrom entryAt
-first-some stack zero top h = absurd (omega arith)
-first-some stack (suc k) top h = refl
-
-pub first-none : (stack : List ℕ) (k top : ℕ) → k ≤ 0 → false ≡ firstLoose (recordsFrom (entryAt stack) 1 k top)
-unfolding firstLoose recordsFrom
-first-none stack zero top h = refl
-first-none stack (suc k) top h = absurd (omega arith)
-
--- the entries that a node takes
-pub taken-part : (stack : List ℕ) (k top taken : ℕ) → top ≤ length stack → taken ≡ min k (length stack - top)
-    → recordsFrom (entryAt stack) 1 taken top ≡ take k (drop top stack)
-taken-part stack k top taken h e =
-    entries-part stack taken top (omega arith)
-    ∙ ap (λ (m : ℕ). take m (drop top stack)) (e ∙ found stack k top)
-    ∙ take-found k (drop top stack)

@@ -1,7 +1,7 @@
 -- The trees behind the nodes that are left to take, and the stack of their entries.
 use Prim.Native.Nat.{ℕ, _+_, _-_, _*_, _≤_}
 use mathlib.Core.Path.{_≡_}
-use mathlib.Core.Bool.{Bool, _&&_}
+use mathlib.Core.Bool.{true, _&&_}
 use mathlib.Core.List.{List}
 use lib.ListN.{length, drop}
 use Rattle.records.specs.Records.{recordsFrom}
@@ -11,9 +11,9 @@ use Rattle.records.specs.declared.layout.NodeRecord.{NodeRecord}
 use Rattle.trees.specs.Stack.{entries}
 
 -- i of n nodes are left; behind them stand the trees of the others
-pub record Growing (readAt : ℕ → NodeRecord) (len n from : ℕ) (stack : List ℕ) (good : Bool) (top i : ℕ) : Type 0 where
+pub record Growing (readAt : ℕ → NodeRecord) (len n from : ℕ) (stack : List ℕ) (top i : ℕ) : Type 0 where
   pub within : i ≤ n
   pub inside : top ≤ length stack
   pub room : length stack + i ≤ top + n
   pub same : drop top stack ≡ entries (rowOf (recordsFrom readAt len (n - i) (from + len * i)))
-  pub judged : good ≡ (closed (recordsFrom readAt len (n - i) (from + len * i)) && allPlaced (rowOf (recordsFrom readAt len (n - i) (from + len * i))))
+  pub judged : (closed (recordsFrom readAt len (n - i) (from + len * i)) && allPlaced (rowOf (recordsFrom readAt len (n - i) (from + len * i)))) ≡ true

@@ -1,12 +1,13 @@
 -- What is kept of each tree of a row while the nodes before it are checked: its root's kind, and whether it is loose.
-use Prim.Native.Nat.{ℕ, _+_, _*_, _/_, _%_}
-use mathlib.Core.Bool.{Bool, false, _&&_, _||_, not}
+use Prim.Native.Nat.{ℕ, _+_, _*_, _/_, _%_, _≤_, _<_}
+use mathlib.Core.Bool.{Bool, false, cond, _&&_, _||_, not}
 use mathlib.Core.List.{List, [], _∷_}
 use lib.ListN.{length, getD, take, drop}
 use lib.Dec.{eqb, leb}
 use Rattle.records.specs.Flags.{optional}
 use Rattle.records.specs.Records.{everyFrom}
 use Rattle.records.specs.File.{one}
+use Rattle.records.specs.Sets.{isIn}
 use Rattle.records.specs.Node.{isLink}
 use Rattle.records.specs.Tree.{Trees, none, more}
 use Rattle.records.specs.Place.{root, loose, isExpression, mayStand, mayBeLoose}
@@ -54,3 +55,11 @@ rootStands e = isExpression (entryKind e) && not (entryLoose e)
 -- the entry at a place of a stack
 unfoldable pub entryAt : List ℕ → ℕ → ℕ
 entryAt stack at = getD stack at 0
+
+-- entries, from the top on, that are numbers of a set
+abbrev pub Low : List ℕ → ℕ → Type 0
+Low stack top = (k : ℕ) → top ≤ k → getD stack k 0 < 64
+
+-- the entry of a child of this number is in one set for the first child, in another for the others
+unfoldable pub inSets : ℕ → ℕ → ℕ → ℕ → Bool
+inSets first later i e = isIn (cond (eqb i 0) first later) e

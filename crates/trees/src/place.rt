@@ -4,14 +4,10 @@ ghost use Prim.Native.Nat.{_+_, _≤_};
 ghost use lib.ListN.{length};
 ghost use Rattle.records.specs.Records.{recordsFrom, every, everyFrom};
 ghost use Rattle.records.specs.Node.{isLink as isLinkKind};
-ghost use Rattle.records.specs.Place.{isExpression, mayStand, mayBeLoose};
-ghost use Rattle.trees.specs.Stack.{entry as entryOf, entryAt, childStands, rootStands};
-
-pub fn is_expression(kind: u16) -> bool
-    ensures { λ r. ⌜ r ≡ isExpression kind ⌝ }
-{
-    (kind < 25) | (kind == 28)
-}
+ghost use Rattle.trees.specs.Stack.{entry as entryOf, entryAt, rootStands, inSets, Low};
+ghost use Rattle.trees.specs.Standing.{standing};
+use records::node::is_expression;
+use records::set::has_bit;
 
 pub fn is_link(kind: u16) -> bool
     ensures { λ r. ⌜ r ≡ isLinkKind kind ⌝ }
@@ -19,42 +15,105 @@ pub fn is_link(kind: u16) -> bool
     (kind == 10) | (kind == 11) | (kind == 12) | (kind == 14)
 }
 
-// Whether a child of a kind may stand under a parent, as its child of number `index`.
-pub fn may_stand(parent: u16, flags: u8, index: usize, kind: u16) -> bool
-    ensures { λ r. ⌜ r ≡ mayStand parent flags index kind ⌝ }
-{
-    let expression = is_expression(kind);
-    let object = parent == 22;
-    let chain = parent == 13;
-    let target = (parent == 20) & (index == 0);
-    let short = (parent == 26) & (flags / 16 % 2 == 1);
-    let array = parent == 21;
-    let argument = ((parent == 14) | (parent == 15)) & !(index == 0);
-    if object {
-        return (kind == 25) | (kind == 26);
-    }
-    if chain {
-        return is_link(kind);
-    }
-    if target {
-        return (kind == 10) | (kind == 11) | (kind == 12) | (kind == 29) | (kind == 30);
-    }
-    if short {
-        return kind == 4;
-    }
-    if array {
-        return expression | (kind == 25) | (kind == 27);
-    }
-    if argument {
-        return expression | (kind == 25);
-    }
-    expression
-}
+// Sets of the trees that may stand as a child: bit 2 * kind is for a tree of that kind, bit 2 * kind + 1 for a loose one. In
+// this one are kinds 0 to 24, and 28.
+const EXPRESSIONS: u64 = 0x0101_5555_5555_5555;
 
-pub fn may_be_loose(parent: u16, index: usize) -> bool
-    ensures { λ r. ⌜ r ≡ mayBeLoose parent index ⌝ }
+// The same, loose or not.
+const OBJECTS: u64 = 0x0303_ffff_ffff_ffff;
+
+// Links: 10, 11, 12 and 14.
+const LINKS: u64 = 0x0000_0000_1150_0000;
+
+// The same, loose or not.
+const CHAINED: u64 = 0x0000_0000_33f0_0000;
+
+// 10, 11, 12, 29 and 30.
+const TARGETS: u64 = 0x1400_0000_0150_0000;
+
+// Expressions, spreads (25) and elisions (27).
+const ELEMENTS: u64 = 0x0145_5555_5555_5555;
+
+// 25 and 26.
+const PROPERTIES: u64 = 0x0014_0000_0000_0000;
+
+// Expressions and spreads.
+const ARGUMENTS: u64 = 0x0105_5555_5555_5555;
+
+// 4, the child of a shorthand property.
+pub const NAME: u64 = 0x0000_0000_0000_0100;
+
+// What may stand as the first child of each kind, but under a shorthand property, and as a later one.
+const STANDING: [u64; 62] = [
+    EXPRESSIONS,
+    EXPRESSIONS,
+    EXPRESSIONS,
+    EXPRESSIONS,
+    EXPRESSIONS,
+    EXPRESSIONS,
+    EXPRESSIONS,
+    EXPRESSIONS,
+    EXPRESSIONS,
+    EXPRESSIONS,
+    EXPRESSIONS,
+    EXPRESSIONS,
+    EXPRESSIONS,
+    EXPRESSIONS,
+    EXPRESSIONS,
+    EXPRESSIONS,
+    EXPRESSIONS,
+    EXPRESSIONS,
+    EXPRESSIONS,
+    EXPRESSIONS,
+    OBJECTS,
+    EXPRESSIONS,
+    OBJECTS,
+    EXPRESSIONS,
+    OBJECTS,
+    EXPRESSIONS,
+    CHAINED,
+    LINKS,
+    OBJECTS,
+    ARGUMENTS,
+    EXPRESSIONS,
+    ARGUMENTS,
+    EXPRESSIONS,
+    EXPRESSIONS,
+    EXPRESSIONS,
+    EXPRESSIONS,
+    EXPRESSIONS,
+    EXPRESSIONS,
+    EXPRESSIONS,
+    EXPRESSIONS,
+    TARGETS,
+    EXPRESSIONS,
+    ELEMENTS,
+    ELEMENTS,
+    PROPERTIES,
+    PROPERTIES,
+    EXPRESSIONS,
+    EXPRESSIONS,
+    EXPRESSIONS,
+    EXPRESSIONS,
+    EXPRESSIONS,
+    EXPRESSIONS,
+    EXPRESSIONS,
+    EXPRESSIONS,
+    EXPRESSIONS,
+    EXPRESSIONS,
+    EXPRESSIONS,
+    EXPRESSIONS,
+    EXPRESSIONS,
+    EXPRESSIONS,
+    EXPRESSIONS,
+    EXPRESSIONS,
+];
+
+// The table is lent: a constant would be laid down anew for each node.
+pub fn standing_sets() -> [u64; 62]
+    ensures { λ r. ⌜ r ≡ standing ⌝ }
 {
-    (index == 0) & ((parent == 13) | is_link(parent))
+    STANDING
 }
 
 // What is kept of a tree: its root's kind, and whether it is loose.
@@ -68,14 +127,6 @@ pub fn entry(kind: u8, loose: bool) -> u16
     twice
 }
 
-pub fn child_stands(parent: u8, flags: u8, index: usize, e: u16) -> bool
-    ensures { λ r. ⌜ r ≡ childStands parent flags index e ⌝ }
-{
-    let kind = parent as u16;
-    let loose = e % 2 == 1;
-    may_stand(kind, flags, index, e / 2) & (!loose | may_be_loose(kind, index))
-}
-
 pub fn root_stands(e: u16) -> bool
     ensures { λ r. ⌜ r ≡ rootStands e ⌝ }
 {
@@ -83,18 +134,24 @@ pub fn root_stands(e: u16) -> bool
     is_expression(e / 2) & !loose
 }
 
-// Whether the children, whose entries stand at `top`, may stand under their parent.
-pub fn children_stand(stack: &[u16], top: usize, count: usize, parent: u8, flags: u8) -> bool
+// Whether the first of the children whose entries stand at `top` is in one set, and the others are in another.
+pub fn children_stand(stack: &[u16], top: usize, count: usize, first: u64, later: u64) -> bool
+    requires { ⌜ 1 ≤ count ⌝ }
     requires { ⌜ top + count ≤ length (now stack) ⌝ }
-    ensures { λ r. ⌜ r ≡ everyFrom (childStands parent flags) 0 (recordsFrom (entryAt (now (stack .entry))) 1 count top) ⌝ }
+    requires { ⌜ Low (now stack) top ⌝ }
+    ensures { λ r. ⌜ r ≡ everyFrom (inSets first later) 0 (recordsFrom (entryAt (now (stack .entry))) 1 count top) ⌝ }
 {
-    let mut good = true;
-    let mut i = 0;
+    if !has_bit(first, stack[top]) {
+        return false;
+    }
+    let mut i = 1;
     while i < count {
-        good = good & child_stands(parent, flags, i, stack[top + i]);
+        if !has_bit(later, stack[top + i]) {
+            return false;
+        }
         i += 1;
     }
-    good
+    true
 }
 
 // Whether the trees whose entries stand at `top` may be the trees of statements.

@@ -3,3 +3,4 @@ pub mod Uses
 pub mod Tallies
 pub mod Counting
 pub mod Declaring
+pub mod Naming

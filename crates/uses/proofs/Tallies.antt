@@ -36,11 +36,12 @@ bumped xs a h k hk = set-at xs a (getD xs a 0 + 1) k h (eqb a k) refl ∙ more-a
 pub not-bumped : (xs : List ℕ) (a : ℕ) → length xs ≤ a → Tally (λ k. one (eqb a k) + getD xs k 0) xs
 not-bumped xs a h k hk = rw (ne-eqb a k (λ e. omega arith)) (sym (zero-add (getD xs k 0)))
 
--- no more uses than records
-low-at : (named : Node → Trees → ℕ) (rs : List NodeRecord) (xs : List ℕ) → Tally (λ k. usesOf named k (rowOf rs)) xs → (k : ℕ) (b : Bool) → ltb k (length xs) ≡ b
-    → getD xs k 0 ≤ length rs
-low-at named rs xs t k true e = rw (t k (ltb-true k (length xs) e)) (uses-most named k rs)
-low-at named rs xs t k false e = rw (List·getD-eq-default xs 0 (ltb-false k (length xs) e)) (omega arith)
+-- no more uses than records, beside what there was
+low-at : (named : Node → Trees → ℕ) (rs : List NodeRecord) (ws xs : List ℕ) → Tally (λ k. usesOf named k (rowOf rs) + getD ws k 0) xs → (k : ℕ) (b : Bool)
+    → ltb k (length xs) ≡ b → getD xs k 0 ≤ length rs + getD ws k 0
+low-at named rs ws xs t k true e = rw (t k (ltb-true k (length xs) e)) (omega (arith, uses-most named k rs))
+low-at named rs ws xs t k false e = rw (List·getD-eq-default xs 0 (ltb-false k (length xs) e)) (omega arith)
 
-pub tally-low : (named : Node → Trees → ℕ) (rs : List NodeRecord) (xs : List ℕ) → Tally (λ k. usesOf named k (rowOf rs)) xs → (k : ℕ) → getD xs k 0 ≤ length rs
-tally-low named rs xs t k = low-at named rs xs t k (ltb k (length xs)) refl
+pub tally-low : (named : Node → Trees → ℕ) (rs : List NodeRecord) (ws xs : List ℕ) → Tally (λ k. usesOf named k (rowOf rs) + getD ws k 0) xs → (k : ℕ)
+    → getD xs k 0 ≤ length rs + getD ws k 0
+tally-low named rs ws xs t k = low-at named rs ws xs t k (ltb k (length xs)) refl

@@ -24,10 +24,10 @@ pub fn declared_twice(file: &[u8], from: usize, count: usize, seen: &mut [u8]) -
     while 0 < i {
         i -= 1;
         let d = declarator_at(file, from + 4 * i);
-        let name = size(d.name);
-        if name < seen.len() {
-            twice = (seen[name] == 1) | twice;
-            seen[name] = 1;
+        let at = size(d.name);
+        if at < seen.len() {
+            twice = (seen[at] == 1) | twice;
+            seen[at] = 1;
         }
     }
     twice

@@ -5,3 +5,4 @@ pub mod Facts
 pub mod Searches
 pub mod Tagged
 pub mod Sizes
+pub mod Looks

@@ -7,17 +7,17 @@ use Rattle.effects.proofs.pass_row.Statement.{statement}
 use Rattle.effects.proofs.pass_row.Tie as tie
 
 abbrev Inv-loop : tie.InvT-loop
-Inv-loop nodes many next₀ pending₀ effect₀ next pending effect = Passing nodes next₀ many next pending effect
+Inv-loop nodes many next₀ pending₀ effect₀ next pending effect = Passing nodes (next₀ .0) many (next .0) pending effect
 
 abbrev μ-loop : tie.MeasureT-loop
-μ-loop nodes many next₀ pending₀ effect₀ next pending effect = length nodes - 16 * next
+μ-loop nodes many next₀ pending₀ effect₀ next pending effect = length nodes - 16 * next .0
 
 loop-holds : tie.Need-loop-holds Inv-loop μ-loop
 loop-holds c = passing-none
 
 -- the trees that are due, of the row that the contract requires
 fits : (c : tie.In-loop Inv-loop μ-loop)
-    → 16 * c .before .loop .next + 16 * c .before .loop .pending ≤ length (c .before .before .before .args .nodes .now)
+    → 16 * c .before .loop .next .0 + 16 * c .before .loop .pending ≤ length (c .before .before .before .args .nodes .now)
 fits c =
     let p = c .before .before .before .pre in
     pending-fits (c .before .loop .inv (p .0) (p .1) (p .2) (p .3) (p .4) .2)
@@ -37,17 +37,17 @@ size-requires c κs = tt
 add-pending : tie.Need-add-pending Inv-loop μ-loop
 add-pending c = omega (arith, fits (c .before .before .before), c .size .ensures)
 
-add-next : tie.Need-add-next Inv-loop μ-loop
-add-next c = omega (arith, fits (c .before .before .before))
+add-t9 : tie.Need-add-t9 Inv-loop μ-loop
+add-t9 c = omega (arith, fits (c .before .before .before .before))
 
 loop-less : tie.Need-loop-less Inv-loop μ-loop
-loop-less c = omega (arith, fits (c .before .before .before))
+loop-less c = omega (arith, fits (c .before .before .before .before))
 
 loop-again : tie.Need-loop-again Inv-loop μ-loop
 loop-again c pre ts rest here due =
-    let l = c .before .before .before .before .loop .inv pre ts rest here due in
-    passing-more (l .1) (l .2) (c .before .before .before .loop-test .taken) (c .before .before .work-node .result) (c .size .result)
-    (c .before .has-effect .result) (c .before .before .work-node .ensures) (c .size .ensures .0) (c .before .has-effect .ensures)
+    let l = c .before .before .before .before .before .loop .inv pre ts rest here due in
+    passing-more (l .1) (l .2) (c .before .before .before .before .loop-test .taken) (c .before .before .before .work-node .result) (c .before .size .result)
+    (c .before .before .has-effect .result) (c .before .before .before .work-node .ensures) (c .before .size .ensures .0) (c .before .before .has-effect .ensures)
 
 returns : tie.Need-returns Inv-loop μ-loop
 returns c pre ts rest here due =
@@ -65,7 +65,7 @@ pass-row-spec =
     sub-pending
     size-requires
     add-pending
-    add-next
+    add-t9
     loop-less
     loop-again
     returns)

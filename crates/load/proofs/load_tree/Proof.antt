@@ -1,25 +1,25 @@
 -- `load::load_tree` meets its contract. Assumes nothing.
 use mathlib.Core.Path.{_≡_, refl}
-use Prim.Native.Nat.{_+_, _-_, _*_, _≤_}
+use Prim.Native.Nat.{ℕ, _+_, _-_, _*_, _≤_}
 use native.Mathlib.Omega.{arith}
 use lib.ListN.{length}
 use Rattle.load.proofs.FileRow.{tree-room}
-use Rattle.load.proofs.Loading.{Loading, loading-none, loading-more, loading-all, loading-fits}
+use Rattle.load.proofs.Loading.{Loading, loading-from, loading-more, loading-all, loading-fits}
 use Rattle.load.proofs.load_tree.Statement.{statement}
 use Rattle.load.proofs.load_tree.Tie as tie
 
 abbrev Inv-loop : tie.InvT-loop
-Inv-loop file from at nodes₀ used next₀ word₀ end₀ nodes next word end =
-    (length nodes ≡ length nodes₀) × (4 * used ≤ end) × Loading file from at nodes₀ used nodes next word end
+Inv-loop file nodes-start nodes₀ nodes-used next₀ word₀ end₀ nodes next word end =
+    (length nodes ≡ length nodes₀) × (4 * nodes-used ≤ end) × ((at : ℕ) → next₀ ≡ nodes-start + 12 * at → Loading file nodes-start at nodes₀ nodes-used nodes next word end)
 
 abbrev μ-loop : tie.MeasureT-loop
-μ-loop file from at nodes₀ used next₀ word₀ end₀ nodes next word end = length file - next
+μ-loop file nodes-start nodes₀ nodes-used next₀ word₀ end₀ nodes next word end = length file - next
 
 mul-next : tie.Need-mul-next Inv-loop μ-loop
-mul-next c = omega (arith, tree-room (c .before .before .pre .4))
+mul-next c = omega (arith, tree-room (c .before .before .before .pre .4))
 
 add-next : tie.Need-add-next Inv-loop μ-loop
-add-next c = omega (arith, tree-room (c .before .before .pre .4))
+add-next c = omega (arith, tree-room (c .before .before .before .pre .4))
 
 mul-word : tie.Need-mul-word Inv-loop μ-loop
 mul-word c = omega arith
@@ -28,16 +28,16 @@ add-end : tie.Need-add-end Inv-loop μ-loop
 add-end c = omega arith
 
 loop-holds : tie.Need-loop-holds Inv-loop μ-loop
-loop-holds c = (refl, omega arith, loading-none (c .before .before .args .used))
+loop-holds c = (refl, omega arith, λ at e. loading-from e ((c .before .before .before .args) .nodes-used))
 
 -- what is due fits, by the tree that the contract requires
 fits : (c : tie.In-loop Inv-loop μ-loop)
-    → (c .before .loop .next + 12 ≤ length (c .before .before .before .before .args .file .now))
-    × (4 * c .before .loop .word + 16 ≤ length (c .before .before .before .before .args .nodes .now))
-    × (4 * c .before .loop .end ≤ length (c .before .before .before .before .args .nodes .now))
+    → (c .before .loop .next + 12 ≤ length (c .before .before .before .before .before .args .file .now))
+    × (4 * c .before .loop .word + 16 ≤ length (c .before .before .before .before .before .args .nodes .now))
+    × (4 * c .before .loop .end ≤ length (c .before .before .before .before .before .args .nodes .now))
 fits c =
-    let start = c .before .before .before .before in
-    loading-fits (start .args .used) (start .pre) (c .before .loop .inv .2) (c .loop-test .taken)
+    let start = c .before .before .before .before .before in
+    loading-fits (start .args .nodes-used) (start .pre) (c .before .loop .inv .2 (start .args .tree .0) refl) (c .loop-test .taken)
 
 mul-to : tie.Need-mul-to Inv-loop μ-loop
 mul-to c = omega (arith, fits c)
@@ -79,10 +79,10 @@ loop-again : tie.Need-loop-again Inv-loop μ-loop
 loop-again c = (
   omega arith,
   omega arith,
-  λ t total before behind here pre rest is long.
+  λ at e t total before behind here pre rest is long.
       let inside = c .before .before .before .before .before .before in
       let copy = c .before .before .before .before .copy-node in
-      let l = inside .before .loop .inv .2 t total before behind here pre rest is long in
+      let l = inside .before .loop .inv .2 at e t total before behind here pre rest is long in
       loading-more (l .2) (l .5) (inside .loop-test .taken) (c .before .node-at .result) (c .size .result) _ (copy .last .1 .1 .0) refl
       (c .before .node-at .ensures) (c .size .ensures .0) (copy .ensures),
 )
@@ -96,7 +96,7 @@ same-length c = omega arith
 returns : tie.Need-returns Inv-loop μ-loop
 returns c = (
   λ t total before behind here pre rest is long.
-      let l = c .before .loop .inv .2 t total before behind here pre rest is long in
+      let l = c .before .loop .inv .2 ((c .before .before .before .before .before .args) .tree .0) refl t total before behind here pre rest is long in
       let e = loading-all (l .2) (l .5) (c .loop-test .left) in (omega (arith, e .0), e .1),
   c .before .loop .inv .0,
 )

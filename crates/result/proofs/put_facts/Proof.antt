@@ -4,7 +4,7 @@ use native.Mathlib.Omega.{arith}
 use lib.ListN.{take, drop}
 use Rattle.records.specs.Record.{headerBytes}
 use Rattle.roundtrip.proofs.Formats.{header-length}
-use Rattle.result.proofs.Parts.{put-next}
+use Rattle.writers.proofs.Laid.{put-next}
 use borrow.Author.Needs.{needs}
 use Rattle.result.proofs.put_facts.Statement.{statement}
 use Rattle.result.proofs.put_facts.Tie as tie

@@ -38,16 +38,13 @@ put-tables-requires c κs =
     let end = getD ((c .before .before .before .before .before .part-offsets) .result) 3 0 in
     omega (arith, nodes-begin ((c .before .before .before .before .before .part-offsets) .result) ((c .before .before .before .before .before .before .result-header) .ensures) ((c .before .before .before .before .before .part-offsets) .ensures), (c .before .before .before .before .before .before .before .before .before .before .before .before) .pre .1 .1 .1, (c .before .before .before .put-facts) .kept .0, mid-len end (length out) out (omega arith))
 
-array-read-result : tie.Need-array-read-result
-array-read-result c = search needs
-
 same-length : tie.Need-same-length
 same-length c = search needs
 
 returns : tie.Need-returns
 returns c =
     let a = (c .before .before .before .before .before .before .before .before .before .before .before .before .before .before .before) .args in
-    result-put (a .file .now) (a .nodes .now) (a .declarators .now) (a .statements .now) (a .counts) (a .out .now) (a .h) ((c .before .before .before .before .before .before .before .before .before .result-header) .result) (getD ((c .before .before .before .before .before .before .before .before .part-offsets) .result) 3 0) (getD ((c .before .before .before .before .before .before .before .before .part-offsets) .result) 6 0) (λ i. (c .before .before .before .before .before .before .before .before .before .before .before .before .before .shared-slice-known) .given i .fits) ((c .before .before .before .before .before .before .before .before .before .before .before .before .before .before .before) .pre .0) ((c .before .before .before .before .before .before .before .before .before .before .before .before .before .before .before) .pre .1 .0) ((c .before .before .before .before .before .before .before .before .before .result-header) .ensures) (ap (λ (l : List ℕ). getD l 3 0) ((c .before .before .before .before .before .before .before .before .part-offsets) .ensures)) (ap (λ (l : List ℕ). getD l 6 0) ((c .before .before .before .before .before .before .before .before .part-offsets) .ensures)) ((c .before .before .before .before .before .before .put-facts) .ensures) ((c .before .before .put-tables) .ensures)
+    result-put (a .file .now) (a .nodes .now) (a .declarators .now) (a .statements .now) (a .counts) (a .out .now) (a .h) ((c .before .before .before .before .before .before .before .before .before .result-header) .result) (getD ((c .before .before .before .before .before .before .before .before .part-offsets) .result) 3 0) (λ i. (c .before .before .before .before .before .before .before .before .before .before .before .before .before .shared-slice-known) .given i .fits) ((c .before .before .before .before .before .before .before .before .before .before .before .before .before .before .before) .pre .0) ((c .before .before .before .before .before .before .before .before .before .before .before .before .before .before .before) .pre .1 .0) ((c .before .before .before .before .before .before .before .before .before .result-header) .ensures) (ap (λ (l : List ℕ). getD l 3 0) ((c .before .before .before .before .before .before .before .before .part-offsets) .ensures)) ((c .before .before .before .before .before .before .put-facts) .ensures) ((c .before .before .put-tables) .ensures)
 
 pub put-result-spec : {M : Type 1} → statement M
 put-result-spec =
@@ -61,6 +58,5 @@ put-result-spec =
     part-put-tables-start
     part-put-tables-end
     put-tables-requires
-    array-read-result
     same-length
     returns)

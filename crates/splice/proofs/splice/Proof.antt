@@ -8,50 +8,44 @@ use borrow.Author.Needs.{needs}
 use Rattle.splice.proofs.splice.Statement.{statement}
 use Rattle.splice.proofs.splice.Tie as tie
 
-mul-first : tie.Need-mul-first
-mul-first c = omega (arith, bounds ((c .before .before) .pre .0 .6))
-
-mul-found : tie.Need-mul-found
-mul-found c = omega (arith, bounds ((c .before .before .before) .pre .0 .6))
-
-node-at-requires : tie.Need-node-at-requires
-node-at-requires c κs = omega (arith, bounds ((c .before .before .before .before) .pre .0 .6))
+work-node-requires : tie.Need-work-node-requires
+work-node-requires c κs = omega (arith, bounds ((c .before .before) .pre .0 .6))
 
 put-position-requires : tie.Need-put-position-requires
-put-position-requires c κs = omega (arith, bounds ((c .before .before .before .before .before .before) .pre .0 .6))
+put-position-requires c κs = omega (arith, bounds ((c .before .before .before .before) .pre .0 .6))
 
 rotate-requires : tie.Need-rotate-requires
-rotate-requires c κs = omega (arith, bounds ((c .before .before .before .before .before .before .before .before .before .before) .pre .0 .6))
+rotate-requires c κs = omega (arith, bounds ((c .before .before .before .before .before .before .before .before) .pre .0 .6))
 
-sub-keep-indirect : tie.Need-sub-keep-indirect
-sub-keep-indirect c = omega (arith, bounds ((c .before .before .before .before .before .before .before .before .before .before .before .before .before .before .before .before .before) .pre .0 .6))
+sub-t19 : tie.Need-sub-t19
+sub-t19 c = omega (arith, bounds ((c .before .before .before .before .before .before .before .before .before .before .before .before .before .before) .pre .0 .6))
 
-add-keep-indirect : tie.Need-add-keep-indirect
-add-keep-indirect c = omega (arith, bounds ((c .before .before .before .before .before .before .before .before .before .before .before .before .before .before .before .before .before .before) .pre .0 .6))
+add-t20 : tie.Need-add-t20
+add-t20 c = omega (arith, bounds ((c .before .before .before .before .before .before .before .before .before .before .before .before .before .before .before) .pre .0 .6))
 
-keep-indirect-requires : tie.Need-keep-indirect-requires
-keep-indirect-requires c κs = omega (arith, bounds ((c .before .before .before .before .before .before .before .before .before .before .before .before .before .before .before .before .before .before) .pre .0 .6), (c .before .before .before .before .before .before .before .before .before .before .before .before .before .before .before .before .before .before) .pre .1 ((c .before .before .before .before .if1) .taken))
+preserve-indirect-access-requires : tie.Need-preserve-indirect-access-requires
+preserve-indirect-access-requires c κs = omega (arith, bounds ((c .before .before .before .before .before .before .before .before .before .before .before .before .before .before .before .before) .pre .0 .6), (c .before .before .before .before .before .before .before .before .before .before .before .before .before .before .before .before) .pre .1 ((c .before .before .before .before .if1) .taken))
 
 add-result : tie.Need-add-result
-add-result c = omega (arith, bounds ((c .before .before .before .before .before .before .before .before .before .before .before .before .before .before .before .before .before .before .before .before .before) .pre .0 .6), (c .before .before .before .before .before .before .before .before .before .before .before .before .before .before .before .before .before .before .before .before .before) .pre .1 ((c .before .before .before .before .before .before .before .if1) .taken))
+add-result c = omega (arith, bounds ((c .before .before .before .before .before .before .before .before .before .before .before .before .before .before .before .before .before .before .before) .pre .0 .6), (c .before .before .before .before .before .before .before .before .before .before .before .before .before .before .before .before .before .before .before) .pre .1 ((c .before .before .before .before .before .before .before .if1) .taken))
 
 same-length : tie.Need-same-length
 same-length c = search needs
 
 returns : tie.Need-returns
 returns c =
-    let fits = (c .before .before .before .before .before .before .before .before .before .before .before .before .before .before .before .before .before .before .before .before .before) .pre .1 ((c .before .before .before .before .before .before .before .if1) .taken) in
-    let at-name = (c .before .before .before .before .before .before .before .before .before .before .before .before .before .before .before .before .node-at) .ensures in
-    (λ t name pre between after rest h. (_, spliced-indirect h (ap (λ (n : NodeRecord). n .position) (at-name ∙ name-read h)) ((c .before .before .before .before .before .before .before .before .before .before .before .before .before .before .put-position) .ensures) ((c .before .before .before .before .before .before .before .before .before .before .rotate) .ensures) ((c .before .before .before .before .before .before .before .if1) .taken) fits ((c .before .before .keep-indirect) .ensures)), search needs)
+    let fits = (c .before .before .before .before .before .before .before .before .before .before .before .before .before .before .before .before .before .before .before) .pre .1 ((c .before .before .before .before .before .before .before .if1) .taken) in
+    let at-name = (c .before .before .before .before .before .before .before .before .before .before .before .before .before .before .before .before .work-node) .ensures in
+    (λ t name pre between after rest h. (_, spliced-indirect h (ap (λ (n : NodeRecord). n .position) (at-name ∙ name-read h)) ((c .before .before .before .before .before .before .before .before .before .before .before .before .before .before .put-position) .ensures) ((c .before .before .before .before .before .before .before .before .before .before .rotate) .ensures) ((c .before .before .before .before .before .before .before .if1) .taken) fits ((c .before .before .preserve-indirect-access) .ensures)), search needs)
 
-add-after : tie.Need-add-after
-add-after c = omega (arith, bounds ((c .before .before .before .before .before .before .before .before .before .before .before .before .before .before .before) .pre .0 .6))
+add-move-down : tie.Need-add-move-down
+add-move-down c = omega (arith, bounds ((c .before .before .before .before .before .before .before .before .before .before .before .before .before) .pre .0 .6))
 
 sub-move-down : tie.Need-sub-move-down
-sub-move-down c = omega (arith, bounds ((c .before .before .before .before .before .before .before .before .before .before .before .before .before .before .before .before) .pre .0 .6))
+sub-move-down c = omega (arith, bounds ((c .before .before .before .before .before .before .before .before .before .before .before .before .before .before .before) .pre .0 .6))
 
 move-down-requires : tie.Need-move-down-requires
-move-down-requires c κs = omega (arith, bounds ((c .before .before .before .before .before .before .before .before .before .before .before .before .before .before .before .before) .pre .0 .6))
+move-down-requires c κs = omega (arith, bounds ((c .before .before .before .before .before .before .before .before .before .before .before .before .before .before .before) .pre .0 .6))
 
 sub-result : tie.Need-sub-result
 sub-result c = search needs
@@ -61,28 +55,26 @@ same-length-2 c = search needs
 
 returns-2 : tie.Need-returns-2
 returns-2 c =
-    let a = (c .before .before .before .before .before .before .before .before .before .before .before .before .before .before .before .before .before .before .before) .args in
-    let at-name = (c .before .before .before .before .before .before .before .before .before .before .before .before .before .before .node-at) .ensures in
+    let a = (c .before .before .before .before .before .before .before .before .before .before .before .before .before .before .before .before .before .before) .args in
+    let at-name = (c .before .before .before .before .before .before .before .before .before .before .before .before .before .before .before .work-node) .ensures in
     let after = a .place .0 + 1 in
-    let within = bounds ((c .before .before .before .before .before .before .before .before .before .before .before .before .before .before .before .before .before .before .before) .pre .0 .6) in
-    (λ t name pre between tail rest h. (_, spliced h (ap (λ (n : NodeRecord). n .position) (at-name ∙ name-read h)) ((c .before .before .before .before .before .before .before .before .before .before .before .before .put-position) .ensures) ((c .before .before .before .before .before .before .before .before .rotate) .ensures) (16 * after) (16 * (a .used - after)) (omega arith) (omega arith) ((c .before .before .before .before .before .if1) .left) ((c .before .before .move-down) .ensures)), search needs)
+    let within = bounds ((c .before .before .before .before .before .before .before .before .before .before .before .before .before .before .before .before .before .before) .pre .0 .6) in
+    (λ t name pre between tail rest h. (_, spliced h (ap (λ (n : NodeRecord). n .position) (at-name ∙ name-read h)) ((c .before .before .before .before .before .before .before .before .before .before .before .before .before .put-position) .ensures) ((c .before .before .before .before .before .before .before .before .before .rotate) .ensures) (16 * after) (16 * (a .nodes-used - after)) (omega arith) (omega arith) ((c .before .before .before .before .before .before .if1) .left) ((c .before .before .move-down) .ensures)), search needs)
 
 pub splice-spec : {M : Type 1} → statement M
 splice-spec =
     tie.close
     (tie.spec
-    mul-first
-    mul-found
-    node-at-requires
+    work-node-requires
     put-position-requires
     rotate-requires
-    sub-keep-indirect
-    add-keep-indirect
-    keep-indirect-requires
+    sub-t19
+    add-t20
+    preserve-indirect-access-requires
     add-result
     same-length
     returns
-    add-after
+    add-move-down
     sub-move-down
     move-down-requires
     sub-result

@@ -1,23 +1,18 @@
 -- `table::put_nodes` meets its contract. Assumes nothing.
-use mathlib.Core.Path.{refl}
+use Prim.Native.Nat.{_-_}
 use native.Mathlib.Omega.{arith}
-use native.Mathlib.Nat.{zero-add}
-use Rattle.records.specs.Record.{nodeAt, nodeBytes}
-use Rattle.writers.proofs.Laid.{Laid, laid-none, laid-more, laid-all}
+use Rattle.table.proofs.NodePart.{Laid, laid-none, laid-more, laid-all}
 use Rattle.table.proofs.put_nodes.Statement.{statement}
 use Rattle.table.proofs.put_nodes.Tie as tie
 
 abbrev Inv-loop : tie.InvT-loop
-Inv-loop out₀ table count i₀ out i = Laid nodeBytes 12 (nodeAt table) 16 count 0 out₀ out i
+Inv-loop out₀ table count i₀ out i = Laid table count out₀ out i
 
 abbrev μ-loop : tie.MeasureT-loop
-μ-loop out₀ table count i₀ out i = i
+μ-loop out₀ table count i₀ out i = count - i
 
 loop-holds : tie.Need-loop-holds Inv-loop μ-loop
 loop-holds c = laid-none
-
-sub-i : tie.Need-sub-i Inv-loop μ-loop
-sub-i c = omega arith
 
 mul-at : tie.Need-mul-at Inv-loop μ-loop
 mul-at c = omega arith
@@ -37,12 +32,14 @@ mul-put-record c = omega arith
 put-record-requires : tie.Need-put-record-requires Inv-loop μ-loop
 put-record-requires c κs = (omega arith, omega arith)
 
+add-i : tie.Need-add-i Inv-loop μ-loop
+add-i c = omega arith
+
 loop-less : tie.Need-loop-less Inv-loop μ-loop
 loop-less c = omega arith
 
 loop-again : tie.Need-loop-again Inv-loop μ-loop
-unfolding nodeBytes
-loop-again c = laid-more _ ((c .before .before .put-record) .last .0) _ _ ((c .before .before .before .before .before .loop) .inv) (omega arith) (rw zero-add) refl ((c .before .before .put-record) .ensures) refl (omega arith)
+loop-again c = laid-more ((c .before .before .before .before .before .loop) .inv) (omega arith) (omega arith) ((c .before .before .put-record) .ensures)
 
 same-length : tie.Need-same-length Inv-loop μ-loop
 same-length c = omega arith
@@ -57,13 +54,13 @@ put-nodes-spec =
     Inv-loop
     μ-loop
     loop-holds
-    sub-i
     mul-at
     sub-put-record
     part-put-record-start
     part-put-record-end
     mul-put-record
     put-record-requires
+    add-i
     loop-less
     loop-again
     same-length

@@ -10,17 +10,17 @@ use Rattle.effects.proofs.tree.may_have_side_effects.Statement.{stateme
 use Rattle.effects.proofs.tree.may_have_side_effects.Tie as tie
 
 abbrev Inv-loop : tie.InvT-loop
-Inv-loop nodes next₀ pending₀ next pending = Passing nodes next₀ 1 next pending false
+Inv-loop nodes next₀ pending₀ next pending = Passing nodes (next₀ .0) 1 (next .0) pending false
 
 abbrev μ-loop : tie.MeasureT-loop
-μ-loop nodes next₀ pending₀ next pending = length nodes - 16 * next
+μ-loop nodes next₀ pending₀ next pending = length nodes - 16 * next .0
 
 loop-holds : tie.Need-loop-holds Inv-loop μ-loop
 loop-holds c = passing-none
 
 -- the trees that are due, of the tree that the contract requires
 fits : (c : tie.In-loop Inv-loop μ-loop)
-    → 16 * c .before .loop .next + 16 * c .before .loop .pending ≤ length (c .before .before .before .args .nodes .now)
+    → 16 * c .before .loop .next .0 + 16 * c .before .loop .pending ≤ length (c .before .before .before .args .nodes .now)
 fits c =
     let p = c .before .before .before .pre in
     pending-fits (c .before .loop .inv (p .0) (more (p .1) none) (p .2) (p .3) (alone (p .1) .0) .2)
@@ -46,17 +46,17 @@ size-requires c κs = tt
 add-pending : tie.Need-add-pending Inv-loop μ-loop
 add-pending c = omega (arith, fits (c .before .before .before .before), (c .size) .ensures)
 
-add-next : tie.Need-add-next Inv-loop μ-loop
-add-next c = omega (arith, fits (c .before .before .before .before))
+add-t8 : tie.Need-add-t8 Inv-loop μ-loop
+add-t8 c = omega (arith, fits (c .before .before .before .before .before))
 
 loop-less : tie.Need-loop-less Inv-loop μ-loop
-loop-less c = omega (arith, fits (c .before .before .before .before))
+loop-less c = omega (arith, fits (c .before .before .before .before .before))
 
 loop-again : tie.Need-loop-again Inv-loop μ-loop
 loop-again c =
     λ pre ts rest here due.
-    let l = (c .before .before .before .before .before .loop) .inv pre ts rest here due in
-    passing-more (l .1) (l .2) ((c .before .before .before .before .loop-test) .taken) ((c .before .before .before .work-node) .result) ((c .size) .result) false ((c .before .before .before .work-node) .ensures) ((c .size) .ensures .0) (sym ((c .before .if1) .left) ∙ (c .before .before .has-effect) .ensures)
+    let l = (c .before .before .before .before .before .before .loop) .inv pre ts rest here due in
+    passing-more (l .1) (l .2) ((c .before .before .before .before .before .loop-test) .taken) ((c .before .before .before .before .work-node) .result) ((c .before .size) .result) false ((c .before .before .before .before .work-node) .ensures) ((c .before .size) .ensures .0) (sym ((c .before .before .if1) .left) ∙ (c .before .before .before .has-effect) .ensures)
 
 returns-2 : tie.Need-returns-2 Inv-loop μ-loop
 returns-2 c =
@@ -77,7 +77,7 @@ may-have-side-effects-spec =
     sub-pending
     size-requires
     add-pending
-    add-next
+    add-t8
     loop-less
     loop-again
     returns-2)

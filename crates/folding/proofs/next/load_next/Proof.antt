@@ -21,8 +21,8 @@ load-tree-requires c κs = tree-there ((c .before .before .before .before) .args
 add-t10 : tie.Need-add-t10
 add-t10 c = let (x, y) = load-fits ((c .before .before .before .before .before .before .before .before) .args .file .now) ((c .before .before .before .before .before .before .before .before) .args .h) ((c .before .before .before .before .before .before .before .before) .args .nodes .now) ((c .before .before .before .before .before .before .before .before) .args .p) _ (ap (λ (l : List ℕ). getD l 3 0) ((c .before .before .before .before .before .part-offsets) .ensures)) _ _ ((c .before .before .before .before .before .before .before .before) .pre) ((c .before .before .before .load-tree) .ensures .0) in omega (arith, x)
 
-add-t13 : tie.Need-add-t13
-add-t13 c = let (x, y) = load-fits ((c .before .before .before .before .before .before .before .before .before) .args .file .now) ((c .before .before .before .before .before .before .before .before .before) .args .h) ((c .before .before .before .before .before .before .before .before .before) .args .nodes .now) ((c .before .before .before .before .before .before .before .before .before) .args .p) _ (ap (λ (l : List ℕ). getD l 3 0) ((c .before .before .before .before .before .before .part-offsets) .ensures)) _ _ ((c .before .before .before .before .before .before .before .before .before) .pre) ((c .before .before .before .before .load-tree) .ensures .0) in omega (arith, y)
+add-t14 : tie.Need-add-t14
+add-t14 c = let (x, y) = load-fits ((c .before .before .before .before .before .before .before .before .before) .args .file .now) ((c .before .before .before .before .before .before .before .before .before) .args .h) ((c .before .before .before .before .before .before .before .before .before) .args .nodes .now) ((c .before .before .before .before .before .before .before .before .before) .args .p) _ (ap (λ (l : List ℕ). getD l 3 0) ((c .before .before .before .before .before .before .part-offsets) .ensures)) _ _ ((c .before .before .before .before .before .before .before .before .before) .pre) ((c .before .before .before .before .load-tree) .ensures .0) in omega (arith, y)
 
 same-length : tie.Need-same-length
 same-length c = search needs
@@ -38,6 +38,6 @@ load-next-spec =
     array-read-load-tree
     load-tree-requires
     add-t10
-    add-t13
+    add-t14
     same-length
     returns)

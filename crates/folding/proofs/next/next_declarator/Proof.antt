@@ -25,7 +25,7 @@ declarator-at-requires : tie.Need-declarator-at-requires
 declarator-at-requires c κs = omega (arith, ap (λ (l : List ℕ). getD l 4 0) ((c .before .part-offsets) .ensures), (c .before .before .before) .pre)
 
 returns : tie.Need-returns
-returns c = (c .declarator-at) .ensures ∙ ap (λ (k : ℕ). declaratorAt ((c .before .before .before .before) .args .file .now) (k + 4 * (c .before .before .before .before) .args .p .declarator)) (ap (λ (l : List ℕ). getD l 4 0) ((c .before .before .part-offsets) .ensures))
+returns c = (c .declarator-at) .ensures ∙ ap (λ (k : ℕ). declaratorAt ((c .before .before .before .before) .args .file .now) (k + 4 * (c .before .before .before .before) .args .p .«declarators_read»)) (ap (λ (l : List ℕ). getD l 4 0) ((c .before .before .part-offsets) .ensures))
 
 pub next-declarator-spec : {M : Type 1} → statement M
 next-declarator-spec =

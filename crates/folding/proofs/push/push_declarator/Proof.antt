@@ -30,11 +30,11 @@ mul-starts c = search needs
 slice-write-starts : tie.Need-slice-write-starts
 slice-write-starts c = search needs
 
-add-t9 : tie.Need-add-t9
-add-t9 c = search needs
+add-t10 : tie.Need-add-t10
+add-t10 c = search needs
 
-add-t13 : tie.Need-add-t13
-add-t13 c = search needs
+add-t15 : tie.Need-add-t15
+add-t15 c = search needs
 
 same-length : tie.Need-same-length
 same-length c = search needs
@@ -43,7 +43,7 @@ same-length-2 : tie.Need-same-length-2
 same-length-2 c = search needs
 
 returns : tie.Need-returns
-returns c = (refl, declarator-written {starts = (c .before .before .before .before .before .before .before) .args .starts .now} ((c .before .before .before .before .before .before .before) .args .d) _ ((c .before .before .before .before .before .before .before) .args .p .many) _ refl ((c .before .before .before .before .before .before .before) .pre .0) (omega arith) (overwritten _ 4 ((c .before .before .before .before .before .before .before) .args .declarators .now) (declaratorBytes ((c .before .before .before .before .before .before .before) .args .d)) _ (declarator-reads .measured ((c .before .before .before .before .before .before .before) .args .d)) ((c .before .before .before .put-declarator) .ensures)) refl)
+returns c = (refl, declarator-written {starts = (c .before .before .before .before .before .before .before .before) .args .starts .now} ((c .before .before .before .before .before .before .before .before) .args .d) _ ((c .before .before .before .before .before .before .before .before) .args .p .«declarators_kept») _ refl ((c .before .before .before .before .before .before .before .before) .pre .0) (omega arith) (overwritten _ 4 ((c .before .before .before .before .before .before .before .before) .args .declarators .now) (declaratorBytes ((c .before .before .before .before .before .before .before .before) .args .d)) _ (declarator-reads .measured ((c .before .before .before .before .before .before .before .before) .args .d)) ((c .before .before .before .before .put-declarator) .ensures)) refl)
 
 pub push-declarator-spec : {M : Type 1} → statement M
 push-declarator-spec =
@@ -56,8 +56,8 @@ push-declarator-spec =
     put-declarator-requires
     mul-starts
     slice-write-starts
-    add-t9
-    add-t13
+    add-t10
+    add-t15
     same-length
     same-length-2
     returns)

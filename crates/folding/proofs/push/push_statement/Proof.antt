@@ -30,7 +30,7 @@ same-length : tie.Need-same-length
 same-length c = search needs
 
 returns : tie.Need-returns
-returns c = (refl, statement-written ((c .before .before .before .before .before) .args .s) _ ((c .before .before .before .before .before) .args .p .count) refl ((c .before .before .before .before .before) .pre) (overwritten _ 4 ((c .before .before .before .before .before) .args .statements .now) (statementBytes ((c .before .before .before .before .before) .args .s)) _ (statement-reads .measured ((c .before .before .before .before .before) .args .s)) ((c .before .before .put-statement) .ensures)))
+returns c = (refl, statement-written ((c .before .before .before .before .before) .args .s) _ ((c .before .before .before .before .before) .args .p .«statements_kept») refl ((c .before .before .before .before .before) .pre) (overwritten _ 4 ((c .before .before .before .before .before) .args .statements .now) (statementBytes ((c .before .before .before .before .before) .args .s)) _ (statement-reads .measured ((c .before .before .before .before .before) .args .s)) ((c .before .before .put-statement) .ensures)))
 
 pub push-statement-spec : {M : Type 1} → statement M
 push-statement-spec =

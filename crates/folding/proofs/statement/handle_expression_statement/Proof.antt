@@ -9,13 +9,13 @@ use Rattle.folding.proofs.statement.handle_expression_statement.Tie as 
 
 substitute-in-next-tree-requires : tie.Need-substitute-in-next-tree-requires
 substitute-in-next-tree-requires c κs =
-    let x = expression-next (contextOf (read ((c .before .before .before .before .before .before .before) .args .file .now))) ((c .before .before .before .before .before .before .before) .args .file .now) ((c .before .before .before .before .before .before .before) .args .h) ((c .before .before .before .before .before .before .before) .args .nodes .now) ((c .before .before .before .before .before .before .before) .args .declarators .now) ((c .before .before .before .before .before .before .before) .args .starts .now) ((c .before .before .before .before .before .before .before) .args .statements .now) ((c .before .before .before .before .before .before .before) .args .s) ((c .before .before .before .before .before .before .before) .args .p) ((c .before .before .before .before .before .before .before) .pre .1 .1 .1 .1) ((c .before .before .before .before .before .before .before) .pre .1 .1 .1 .0) in
-    ((c .before .before .before .before .before .before .before) .pre .0, ((c .before .before .before .before .before .before .before) .pre .1 .0, ((c .before .before .before .before .before .before .before) .pre .1 .1 .0, x)))
+    let x = expression-next (contextOf (read ((c .before .before .before .before .before .before .before .before .before) .args .file .now))) ((c .before .before .before .before .before .before .before .before .before) .args .file .now) ((c .before .before .before .before .before .before .before .before .before) .args .h) ((c .before .before .before .before .before .before .before .before .before) .args .nodes .now) ((c .before .before .before .before .before .before .before .before .before) .args .declarators .now) ((c .before .before .before .before .before .before .before .before .before) .args .starts .now) ((c .before .before .before .before .before .before .before .before .before) .args .statements .now) ((c .before .before .before .before .before .before .before .before .before) .args .s) ((c .before .before .before .before .before .before .before .before .before) .args .p) ((c .before .before .before .before .before .before .before .before .before) .pre .1 .1 .1 .1) ((c .before .before .before .before .before .before .before .before .before) .pre .1 .1 .1 .0) in
+    ((c .before .before .before .before .before .before .before .before .before) .pre .0, ((c .before .before .before .before .before .before .before .before .before) .pre .1 .0, ((c .before .before .before .before .before .before .before .before .before) .pre .1 .1 .0, x)))
 
 push-statement-requires : tie.Need-push-statement-requires
 push-statement-requires c κs =
-    let x = expression-room (contextOf (read ((c .before .before .before .before .before .before .before .before .before .before .before .before .before) .args .file .now))) ((c .before .before .before .before .before .before .before .before .before .before .before .before .before) .args .file .now) ((c .before .before .before .before .before .before .before .before .before .before .before .before .before) .args .h) ((c .before .before .before .before .before .before .before .before .before .before .before .before .before) .args .nodes .now) ((c .before .before .before .before .before .before .before .before .before .before .before .before .before) .args .declarators .now) ((c .before .before .before .before .before .before .before .before .before .before .before .before .before) .args .starts .now) ((c .before .before .before .before .before .before .before .before .before .before .before .before .before) .args .statements .now) ((c .before .before .before .before .before .before .before .before .before .before .before .before .before) .args .s) ((c .before .before .before .before .before .before .before .before .before .before .before .before .before) .args .p) ((c .before .before .before .before .before .before .before .before .before .before .before .before .before) .pre .1 .1 .1 .1) _ _ _ ((c .before .before .before .before .before .substitute-in-next-tree) .ensures) ((c .before .before .before .before .before .before .before .before .before .before .before .before .before) .pre .1 .1 .1 .0) in
-    omega (arith, x, (c .before .before .before .before .before .before .before .before .before .before .before .before .before) .pre .1 .1 .0)
+    let x = expression-room (contextOf (read ((c .before .before .before .before .before .before .before .before .before .before .before .before .before .before .before .before .before) .args .file .now))) ((c .before .before .before .before .before .before .before .before .before .before .before .before .before .before .before .before .before) .args .file .now) ((c .before .before .before .before .before .before .before .before .before .before .before .before .before .before .before .before .before) .args .h) ((c .before .before .before .before .before .before .before .before .before .before .before .before .before .before .before .before .before) .args .nodes .now) ((c .before .before .before .before .before .before .before .before .before .before .before .before .before .before .before .before .before) .args .declarators .now) ((c .before .before .before .before .before .before .before .before .before .before .before .before .before .before .before .before .before) .args .starts .now) ((c .before .before .before .before .before .before .before .before .before .before .before .before .before .before .before .before .before) .args .statements .now) ((c .before .before .before .before .before .before .before .before .before .before .before .before .before .before .before .before .before) .args .s) ((c .before .before .before .before .before .before .before .before .before .before .before .before .before .before .before .before .before) .args .p) ((c .before .before .before .before .before .before .before .before .before .before .before .before .before .before .before .before .before) .pre .1 .1 .1 .1) _ _ _ _ _ ((c .before .before .before .before .before .before .before .substitute-in-next-tree) .ensures) ((c .before .before .before .before .before .before .before .before .before .before .before .before .before .before .before .before .before) .pre .1 .1 .1 .0) in
+    omega (arith, x, (c .before .before .before .before .before .before .before .before .before .before .before .before .before .before .before .before .before) .pre .1 .1 .0)
 
 same-length : tie.Need-same-length
 same-length c = search needs
@@ -23,8 +23,11 @@ same-length c = search needs
 same-length-2 : tie.Need-same-length-2
 same-length-2 c = search needs
 
+same-length-3 : tie.Need-same-length-3
+same-length-3 c = search needs
+
 returns : tie.Need-returns
-returns c = expression-folds (contextOf (read ((c .before .before .before .before .before .before .before .before .before .before .before .before .before .before .before .before) .args .file .now))) ((c .before .before .before .before .before .before .before .before .before .before .before .before .before .before .before .before) .args .file .now) ((c .before .before .before .before .before .before .before .before .before .before .before .before .before .before .before .before) .args .h) ((c .before .before .before .before .before .before .before .before .before .before .before .before .before .before .before .before) .args .nodes .now) ((c .before .before .before .before .before .before .before .before .before .before .before .before .before .before .before .before) .args .declarators .now) ((c .before .before .before .before .before .before .before .before .before .before .before .before .before .before .before .before) .args .starts .now) ((c .before .before .before .before .before .before .before .before .before .before .before .before .before .before .before .before) .args .statements .now) ((c .before .before .before .before .before .before .before .before .before .before .before .before .before .before .before .before) .args .s) ((c .before .before .before .before .before .before .before .before .before .before .before .before .before .before .before .before) .args .p) ((c .before .before .before .before .before .before .before .before .before .before .before .before .before .before .before .before) .pre .1 .1 .1 .1) _ _ _ ((c .before .before .before .before .before .before .before .before .substitute-in-next-tree) .ensures) _ _ ((c .before .before .push-statement) .ensures .1) ((c .before .before .push-statement) .ensures .0)
+returns c = expression-folds (contextOf (read ((c .before .before .before .before .before .before .before .before .before .before .before .before .before .before .before .before .before .before .before .before) .args .file .now))) ((c .before .before .before .before .before .before .before .before .before .before .before .before .before .before .before .before .before .before .before .before) .args .file .now) ((c .before .before .before .before .before .before .before .before .before .before .before .before .before .before .before .before .before .before .before .before) .args .h) ((c .before .before .before .before .before .before .before .before .before .before .before .before .before .before .before .before .before .before .before .before) .args .nodes .now) ((c .before .before .before .before .before .before .before .before .before .before .before .before .before .before .before .before .before .before .before .before) .args .declarators .now) ((c .before .before .before .before .before .before .before .before .before .before .before .before .before .before .before .before .before .before .before .before) .args .starts .now) ((c .before .before .before .before .before .before .before .before .before .before .before .before .before .before .before .before .before .before .before .before) .args .statements .now) ((c .before .before .before .before .before .before .before .before .before .before .before .before .before .before .before .before .before .before .before .before) .args .s) ((c .before .before .before .before .before .before .before .before .before .before .before .before .before .before .before .before .before .before .before .before) .args .p) ((c .before .before .before .before .before .before .before .before .before .before .before .before .before .before .before .before .before .before .before .before) .pre .1 .1 .1 .1) _ _ _ _ _ ((c .before .before .before .before .before .before .before .before .before .before .substitute-in-next-tree) .ensures) _ _ ((c .before .before .push-statement) .ensures .1) ((c .before .before .push-statement) .ensures .0)
 
 pub handle-expression-statement-spec : {M : Type 1} → statement M
 handle-expression-statement-spec =
@@ -34,4 +37,5 @@ handle-expression-statement-spec =
     push-statement-requires
     same-length
     same-length-2
+    same-length-3
     returns)

@@ -1,4 +1,5 @@
 -- `records::facts::scopes_are_good` meets its contract. Assumes nothing.
+use mathlib.Core.Path.{_∙_}
 use Prim.Native.Nat.{_-_}
 use native.Mathlib.Omega.{arith}
 use Rattle.records.specs.Record.{scopeAt}
@@ -15,6 +16,9 @@ abbrev μ-loop : tie.MeasureT-loop
 
 loop-holds : tie.Need-loop-holds Inv-loop μ-loop
 loop-holds c = passed-none
+
+size-requires : tie.Need-size-requires Inv-loop μ-loop
+size-requires c κs = tt
 
 mul-scope-at : tie.Need-mul-scope-at Inv-loop μ-loop
 mul-scope-at c = omega arith
@@ -35,7 +39,7 @@ loop-less : tie.Need-loop-less Inv-loop μ-loop
 loop-less c = omega arith
 
 loop-again : tie.Need-loop-again Inv-loop μ-loop
-loop-again c = passed-more ((c .before .scope-at) .result) ((c .scope-is-good) .result) ((c .before .before .before .loop) .inv) ((c .before .before .loop-test) .taken) ((c .before .scope-at) .ensures) ((c .scope-is-good) .ensures)
+loop-again c = passed-more ((c .before .scope-at) .result) ((c .scope-is-good) .result) ((c .before .before .before .before .loop) .inv) ((c .before .before .before .loop-test) .taken) ((c .before .scope-at) .ensures ∙ rw ((c .before .before .size) .ensures .0)) ((c .scope-is-good) .ensures)
 
 returns : tie.Need-returns Inv-loop μ-loop
 returns c = passed-all ((c .before .loop) .inv) (c .loop-test .left)
@@ -47,6 +51,7 @@ scopes-are-good-spec =
     Inv-loop
     μ-loop
     loop-holds
+    size-requires
     mul-scope-at
     add-scope-at
     scope-at-requires

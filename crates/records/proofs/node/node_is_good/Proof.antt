@@ -1,58 +1,58 @@
 -- `records::node::node_is_good` meets its contract. Assumes nothing.
-use mathlib.Core.Path.{refl, sym}
+use mathlib.Core.Path.{refl, sym, _∙_}
+use mathlib.Core.Logic.{⊎-elim}
+use borrow.Author.Tests.{not-true, not-false}
 use Rattle.records.proofs.Names.{node-judged}
-use Rattle.records.proofs.Judged.{unflagged-judged, marked-judged}
+use Rattle.records.proofs.Judged.{bad-kind, bad-position, bad-zero, bad-flags, bad-children, named-judged, unnamed-judged, flagless, parent-unnamed}
 use borrow.Author.Needs.{needs}
 use Rattle.records.proofs.node.node_is_good.Statement.{statement}
 use Rattle.records.proofs.node.node_is_good.Tie as tie
-use Rattle.records.proofs.node.node_is_good.Reads as reads
-use Rattle.records.proofs.node.node_is_good.Lts as lts
-use Rattle.records.proofs.facts.flags_of.Reads as flags-of-reads
-use Rattle.records.proofs.node.flags_are_good.Reads as flags-are-good-reads
-use Rattle.records.proofs.node.may_mark.Reads as may-mark-reads
-use Rattle.records.proofs.node.record_is_good.Reads as record-is-good-reads
-
-record-is-good-requires : tie.Need-record-is-good-requires
-record-is-good-requires c κs = search needs
 
 returns : tie.Need-returns
-returns c = node-judged _ _ _ ((c .before .before .before .before .before .before) .args .n) refl (unflagged-judged _ _ ((c .before .before .before .before .before .before) .args .n) ((c .record-is-good) .ensures _) ((c .before .if1) .taken))
-
-flags-of-requires : tie.Need-flags-of-requires
-flags-of-requires c κs = search needs
-
-record-is-good-requires-2 : tie.Need-record-is-good-requires-2
-record-is-good-requires-2 c κs = search needs
-
-may-mark-requires : tie.Need-may-mark-requires
-may-mark-requires c κs = search needs
+returns c = node-judged _ _ _ ((c .before .before .before .before .before) .args .n) refl (bad-kind _ _ ((c .before .before .before .before .before) .args .n) ((c .if1) .taken))
 
 returns-2 : tie.Need-returns-2
-returns-2 c = node-judged _ _ _ ((c .before .before .before .before .before .before .before .before .before .before) .args .n) ((c .before .before .before .before .flags-of) .ensures) (marked-judged _ _ ((c .before .before .before .before .before .before .before .before .before .before) .args .n) ((c .before .record-is-good2) .result) ((c .may-mark) .result) ((c .before .record-is-good2) .ensures _) ((c .before .before .if2) .taken) ((c .may-mark) .ensures))
+returns-2 c = node-judged _ _ _ ((c .before .before .before .before .before .before .before) .args .n) refl (bad-position _ _ ((c .before .before .before .before .before .before .before) .args .n) ((c .if2) .taken))
 
-record-is-good-requires-3 : tie.Need-record-is-good-requires-3
-record-is-good-requires-3 c κs = search needs
+returns-3 : tie.Need-returns-3
+returns-3 c = node-judged _ _ _ ((c .before .before .before .before .before .before .before .before .before) .args .n) refl (bad-zero _ _ ((c .before .before .before .before .before .before .before .before .before) .args .n) ((c .if3) .taken))
 
 flags-are-good-requires : tie.Need-flags-are-good-requires
 flags-are-good-requires c κs = search needs
 
-may-mark-requires-2 : tie.Need-may-mark-requires-2
-may-mark-requires-2 c κs = search needs
+returns-4 : tie.Need-returns-4
+returns-4 c = node-judged _ _ _ ((c .before .before .before .before .before .before .before .before .before .before .before .before .before) .args .n) refl (bad-flags _ _ ((c .before .before .before .before .before .before .before .before .before .before .before .before .before) .args .n) (sym ((c .before .flags-are-good) .ensures) ∙ not-true _ ((c .if5) .taken)))
 
-returns-3 : tie.Need-returns-3
-returns-3 c = node-judged _ _ _ ((c .before .before .before .before .before .before .before .before .before .before .before .before) .args .n) ((c .before .before .before .before .before .before .flags-of) .ensures) (rw ((c .before .flags-are-good) .ensures, (c .may-mark2) .ensures) (sym ((c .before .before .record-is-good3) .ensures _)))
+children-are-good-requires : tie.Need-children-are-good-requires
+children-are-good-requires c κs = search needs
+
+returns-5 : tie.Need-returns-5
+returns-5 c = node-judged _ _ _ ((c .before .before .before .before .before .before .before .before .before .before .before .before .before) .args .n) refl (bad-children _ _ ((c .before .before .before .before .before .before .before .before .before .before .before .before .before) .args .n) (sym ((c .before .children-are-good) .ensures) ∙ not-true _ ((c .if6) .taken)))
+
+label-is-good-requires : tie.Need-label-is-good-requires
+label-is-good-requires c κs = search needs
+
+returns-6 : tie.Need-returns-6
+returns-6 c = node-judged _ _ _ ((c .before .before .before .before .before .before .before .before .before .before .before .before .before .before .before .before .before .before .before) .args .n) refl (named-judged _ _ ((c .before .before .before .before .before .before .before .before .before .before .before .before .before .before .before .before .before .before .before) .args .n) ((c .before .before .before .before .before .before .before .before .before .before .before .before .before .before .if1) .left) ((c .before .before .before .before .before .before .before .before .before .before .before .before .if2) .left) ((c .before .before .before .before .before .before .before .before .before .before .if3) .left) (⊎-elim (λ x. sym (x .1 .ensures) ∙ not-false _ (x .2 .left)) (λ y. flagless ((c .before .before .before .before .before .before .before .before .before .before .before .before .before .before .before .before .before .before .before) .args .n) (y .left)) ((c .before .before .before .before .before .before .before .before .if4) .came)) (sym ((c .before .before .before .before .before .before .before .children-are-good) .ensures) ∙ not-false _ ((c .before .before .before .before .before .before .if6) .left)) _ ((c .before .if8) .taken) ((c .label-is-good) .ensures))
+
+returns-7 : tie.Need-returns-7
+returns-7 c = node-judged _ _ _ ((c .before .before .before .before .before .before .before .before .before .before .before .before .before .before .before .before .before .before) .args .n) refl (unnamed-judged _ _ ((c .before .before .before .before .before .before .before .before .before .before .before .before .before .before .before .before .before .before) .args .n) ((c .before .before .before .before .before .before .before .before .before .before .before .before .before .if1) .left) ((c .before .before .before .before .before .before .before .before .before .before .before .if2) .left) ((c .before .before .before .before .before .before .before .before .before .if3) .left) (⊎-elim (λ x. sym (x .1 .ensures) ∙ not-false _ (x .2 .left)) (λ y. flagless ((c .before .before .before .before .before .before .before .before .before .before .before .before .before .before .before .before .before .before) .args .n) (y .left)) ((c .before .before .before .before .before .before .before .if4) .came)) (sym ((c .before .before .before .before .before .before .children-are-good) .ensures) ∙ not-false _ ((c .before .before .before .before .before .if6) .left)) ((c .if8) .left))
+
+returns-8 : tie.Need-returns-8
+returns-8 c = node-judged _ _ _ ((c .before .before .before .before .before .before .before .before .before .before .before .before .before .before .before) .args .n) refl (unnamed-judged _ _ ((c .before .before .before .before .before .before .before .before .before .before .before .before .before .before .before) .args .n) ((c .before .before .before .before .before .before .before .before .before .before .if1) .left) ((c .before .before .before .before .before .before .before .before .if2) .left) ((c .before .before .before .before .before .before .if3) .left) (⊎-elim (λ x. sym (x .1 .ensures) ∙ not-false _ (x .2 .left)) (λ y. flagless ((c .before .before .before .before .before .before .before .before .before .before .before .before .before .before .before) .args .n) (y .left)) ((c .before .before .before .before .if4) .came)) (sym ((c .before .before .before .children-are-good) .ensures) ∙ not-false _ ((c .before .before .if6) .left)) (parent-unnamed ((c .before .before .before .before .before .before .before .before .before .before .before .before .before .before .before) .args .n) (sym ((c .before .before .before .children-are-good) .ensures) ∙ not-false _ ((c .before .before .if6) .left)) ((c .if7) .left)))
 
 pub node-is-good-spec : {M : Type 1} → statement M
 node-is-good-spec =
     tie.close
     (tie.spec
-    record-is-good-requires
     returns
-    flags-of-requires
-    record-is-good-requires-2
-    may-mark-requires
     returns-2
-    record-is-good-requires-3
+    returns-3
     flags-are-good-requires
-    may-mark-requires-2
-    returns-3)
+    returns-4
+    children-are-good-requires
+    returns-5
+    label-is-good-requires
+    returns-6
+    returns-7
+    returns-8)

@@ -1,19 +1,12 @@
 -- `refusal::check::check` meets its contract. Assumes nothing.
 use mathlib.Core.Path.{sym, _∙_}
 use native.Mathlib.Omega.{arith}
-use Rattle.records.specs.Refusal.{refusal}
 use Rattle.refusal.proofs.Limits.{names-fit, length-said, file-declarators-fit}
+use Rattle.refusal.proofs.Judged.{second-test}
+use Rattle.refusal.proofs.Header.{rows-tested}
 use borrow.Author.Needs.{needs}
 use Rattle.refusal.proofs.check.check.Statement.{statement}
 use Rattle.refusal.proofs.check.check.Tie as tie
-use Rattle.refusal.proofs.check.check.Reads as reads
-use Rattle.refusal.proofs.check.check.Lts as lts
-use Rattle.refusal.proofs.file_rows.counts_are_bad.Reads as counts-are-bad-reads
-use Rattle.refusal.proofs.file_rows.facts_are_bad.Reads as facts-are-bad-reads
-use Rattle.refusal.proofs.file_rows.names_are_declared_twice.Reads as names-are-declared-twice-reads
-use Rattle.refusal.proofs.file_rows.node_rows.Reads as node-rows-reads
-use Rattle.refusal.proofs.file_rows.room_is_short.Reads as room-is-short-reads
-use Rattle.refusal.proofs.file_rows.script_totals.Reads as script-totals-reads
 
 facts-are-bad-requires : tie.Need-facts-are-bad-requires
 facts-are-bad-requires c κs = (((c .before .before .before .before .before) .pre .0) .is, length-said ((c .before .before .before .before .before) .args .file .now) ((c .before .before .before .before .before) .args .h) (((c .before .before .before .before .before) .pre .0) .measured))
@@ -22,18 +15,16 @@ room-is-short-requires : tie.Need-room-is-short-requires
 room-is-short-requires c κs = (((c .before .before .before .before .before .before) .pre .0) .is, length-said ((c .before .before .before .before .before .before) .args .file .now) ((c .before .before .before .before .before .before) .args .h) (((c .before .before .before .before .before .before) .pre .0) .measured))
 
 returns : tie.Need-returns
-unfolding refusal
-returns c = rw (((c .before .before .before .before .before .before .before .before) .pre .0) .script, ← ((c .before .before .before .before .before .before .before .before) .pre .0) .is, ((c .before .before .before .before .before .before .before .before) .pre .0) .version, ((c .before .before .before .before .before .before .before .before) .pre .0) .limits, ((c .before .before .before .before .before .before .before .before) .pre .0) .measured, ← (c .before .before .facts-are-bad) .ensures, (c .if1) .taken)
+returns c = rw ((c .if1) .taken) at (rows-tested ((c .before .before .before .before .before .before .before .before) .args .file .now) ((c .before .before .before .before .before .before .before .before) .args .h) ((c .before .before .before .before .before .before .before .before) .args .room) ((c .before .before .facts-are-bad) .result) ((c .before .room-is-short) .result) ((c .before .before .before .before .before .before .before .before) .pre .0) ((c .before .before .facts-are-bad) .ensures) ((c .before .room-is-short) .ensures))
 
 script-totals-requires : tie.Need-script-totals-requires
 script-totals-requires c κs = (((c .before .before .before .before .before .before .before .before) .pre .0) .is, length-said ((c .before .before .before .before .before .before .before .before) .args .file .now) ((c .before .before .before .before .before .before .before .before) .args .h) (((c .before .before .before .before .before .before .before .before) .pre .0) .measured))
 
 returns-2 : tie.Need-returns-2
-unfolding refusal
-returns-2 c = rw (((c .before .before .before .before .before .before .before .before .before .before) .pre .0) .script, ← ((c .before .before .before .before .before .before .before .before .before .before) .pre .0) .is, ((c .before .before .before .before .before .before .before .before .before .before) .pre .0) .version, ((c .before .before .before .before .before .before .before .before .before .before) .pre .0) .limits, ((c .before .before .before .before .before .before .before .before .before .before) .pre .0) .measured, ← (c .before .before .before .before .facts-are-bad) .ensures, (c .before .before .if1) .left, ← (c .before .script-totals) .ensures .0, (c .if2) .taken)
+returns-2 c = rw ((c .before .before .if1) .left, sym ((c .before .script-totals) .ensures .0) ∙ (c .if2) .taken) at (rows-tested ((c .before .before .before .before .before .before .before .before .before .before) .args .file .now) ((c .before .before .before .before .before .before .before .before .before .before) .args .h) ((c .before .before .before .before .before .before .before .before .before .before) .args .room) ((c .before .before .before .before .facts-are-bad) .result) ((c .before .before .before .room-is-short) .result) ((c .before .before .before .before .before .before .before .before .before .before) .pre .0) ((c .before .before .before .before .facts-are-bad) .ensures) ((c .before .before .before .room-is-short) .ensures))
 
 node-rows-requires : tie.Need-node-rows-requires
-node-rows-requires c κs = ((c .before .before .before .before .before .before .before .before .before .before .before .before .before) .pre .0, ((c .before .before .before .before .script-totals) .ensures .1, ((c .before .before .before .before .before .before .before .before .before .before .before .before .before) .pre .1 .0, ((c .before .before .before .before .before .before .before .before .before .before .before .before .before) .pre .1 .1 .1 .1 .1 .1 .0, (c .before .before .before .before .before .before .before .before .before .before .before .before .before) .pre .1 .1 .1 .1 .1 .1 .1 .0))))
+node-rows-requires c κs = (((c .before .before .before .before .before .before .before .before .before .before .before .before .before) .pre .0), ((c .before .before .before .before .script-totals) .ensures .1, ((c .before .before .before .before .before .before .before .before .before .before .before .before .before) .pre .1 .0, ((c .before .before .before .before .before .before .before .before .before .before .before .before .before) .pre .1 .1 .1 .1 .1 .1 .1 .1 .1, ((c .before .before .before .before .before .before .before .before .before .before .before .before .before) .pre .1 .1 .1 .1 .1 .1 .0, (c .before .before .before .before .before .before .before .before .before .before .before .before .before) .pre .1 .1 .1 .1 .1 .1 .1 .0)))))
 
 same-length : tie.Need-same-length
 same-length c = search needs
@@ -45,8 +36,7 @@ same-length-3 : tie.Need-same-length-3
 same-length-3 c = search needs
 
 returns-3 : tie.Need-returns-3
-unfolding refusal
-returns-3 c = rw (((c .before .before .before .before .before .before .before .before .before .before .before .before .before .before .before .before .before .before .before .before .before) .pre .0) .script, ← ((c .before .before .before .before .before .before .before .before .before .before .before .before .before .before .before .before .before .before .before .before .before) .pre .0) .is, ((c .before .before .before .before .before .before .before .before .before .before .before .before .before .before .before .before .before .before .before .before .before) .pre .0) .version, ((c .before .before .before .before .before .before .before .before .before .before .before .before .before .before .before .before .before .before .before .before .before) .pre .0) .limits, ((c .before .before .before .before .before .before .before .before .before .before .before .before .before .before .before .before .before .before .before .before .before) .pre .0) .measured, ← (c .before .before .before .before .before .before .before .before .before .before .before .before .before .before .before .facts-are-bad) .ensures, (c .before .before .before .before .before .before .before .before .before .before .before .before .before .if1) .left, ← (c .before .before .before .before .before .before .before .before .before .before .before .before .script-totals) .ensures .0, (c .before .before .before .before .before .before .before .before .before .before .before .if2) .left, ← (c .before .before .before .before .before .before .before .node-rows) .ensures .0, (c .if3) .taken)
+returns-3 c = rw ((c .before .before .before .before .before .before .before .before .before .before .before .before .before .if1) .left, sym ((c .before .before .before .before .before .before .before .before .before .before .before .before .script-totals) .ensures .0) ∙ (c .before .before .before .before .before .before .before .before .before .before .before .if2) .left, sym ((c .before .before .before .before .before .before .before .node-rows) .ensures .0) ∙ (c .if3) .taken) at (rows-tested ((c .before .before .before .before .before .before .before .before .before .before .before .before .before .before .before .before .before .before .before .before .before) .args .file .now) ((c .before .before .before .before .before .before .before .before .before .before .before .before .before .before .before .before .before .before .before .before .before) .args .h) ((c .before .before .before .before .before .before .before .before .before .before .before .before .before .before .before .before .before .before .before .before .before) .args .room) ((c .before .before .before .before .before .before .before .before .before .before .before .before .before .before .before .facts-are-bad) .result) ((c .before .before .before .before .before .before .before .before .before .before .before .before .before .before .room-is-short) .result) ((c .before .before .before .before .before .before .before .before .before .before .before .before .before .before .before .before .before .before .before .before .before) .pre .0) ((c .before .before .before .before .before .before .before .before .before .before .before .before .before .before .before .facts-are-bad) .ensures) ((c .before .before .before .before .before .before .before .before .before .before .before .before .before .before .room-is-short) .ensures))
 
 same-length-4 : tie.Need-same-length-4
 same-length-4 c = search needs
@@ -58,11 +48,10 @@ same-length-6 : tie.Need-same-length-6
 same-length-6 c = search needs
 
 returns-4 : tie.Need-returns-4
-unfolding refusal
-returns-4 c = rw (((c .before .before .before .before .before .before .before .before .before .before .before .before .before .before .before .before .before .before .before .before .before .before) .pre .0) .script, ← ((c .before .before .before .before .before .before .before .before .before .before .before .before .before .before .before .before .before .before .before .before .before .before) .pre .0) .is, ((c .before .before .before .before .before .before .before .before .before .before .before .before .before .before .before .before .before .before .before .before .before .before) .pre .0) .version, ((c .before .before .before .before .before .before .before .before .before .before .before .before .before .before .before .before .before .before .before .before .before .before) .pre .0) .limits, ((c .before .before .before .before .before .before .before .before .before .before .before .before .before .before .before .before .before .before .before .before .before .before) .pre .0) .measured, ← (c .before .before .before .before .before .before .before .before .before .before .before .before .before .before .before .before .facts-are-bad) .ensures, (c .before .before .before .before .before .before .before .before .before .before .before .before .before .before .if1) .left, ← (c .before .before .before .before .before .before .before .before .before .before .before .before .before .script-totals) .ensures .0, (c .before .before .before .before .before .before .before .before .before .before .before .before .if2) .left, ← (c .before .before .before .before .before .before .before .before .node-rows) .ensures .0, (c .before .if3) .left, ← (c .before .before .before .before .before .before .before .before .node-rows) .ensures .1 .0, (c .if4) .taken)
+returns-4 c = rw ((c .before .before .before .before .before .before .before .before .before .before .before .before .before .before .if1) .left, sym ((c .before .before .before .before .before .before .before .before .before .before .before .before .before .script-totals) .ensures .0) ∙ (c .before .before .before .before .before .before .before .before .before .before .before .before .if2) .left, sym ((c .before .before .before .before .before .before .before .before .node-rows) .ensures .0) ∙ (c .before .if3) .left, sym (second-test _ _ _ _ ((c .before .before .before .before .before .before .before .before .node-rows) .ensures .1 .0) ((c .before .before .before .before .before .before .before .before .node-rows) .ensures .0) ((c .before .if3) .left)) ∙ (c .if4) .taken) at (rows-tested ((c .before .before .before .before .before .before .before .before .before .before .before .before .before .before .before .before .before .before .before .before .before .before) .args .file .now) ((c .before .before .before .before .before .before .before .before .before .before .before .before .before .before .before .before .before .before .before .before .before .before) .args .h) ((c .before .before .before .before .before .before .before .before .before .before .before .before .before .before .before .before .before .before .before .before .before .before) .args .room) ((c .before .before .before .before .before .before .before .before .before .before .before .before .before .before .before .before .facts-are-bad) .result) ((c .before .before .before .before .before .before .before .before .before .before .before .before .before .before .before .room-is-short) .result) ((c .before .before .before .before .before .before .before .before .before .before .before .before .before .before .before .before .before .before .before .before .before .before) .pre .0) ((c .before .before .before .before .before .before .before .before .before .before .before .before .before .before .before .before .facts-are-bad) .ensures) ((c .before .before .before .before .before .before .before .before .before .before .before .before .before .before .before .room-is-short) .ensures))
 
 names-are-declared-twice-requires : tie.Need-names-are-declared-twice-requires
-names-are-declared-twice-requires c κs = (((c .before .before .before .before .before .before .before .before .before .before .before .before .before .before .before .before .before .before .before .before .before .before .before) .pre .0) .is, (length-said ((c .before .before .before .before .before .before .before .before .before .before .before .before .before .before .before .before .before .before .before .before .before .before .before) .args .file .now) ((c .before .before .before .before .before .before .before .before .before .before .before .before .before .before .before .before .before .before .before .before .before .before .before) .args .h) (((c .before .before .before .before .before .before .before .before .before .before .before .before .before .before .before .before .before .before .before .before .before .before .before) .pre .0) .measured), (file-declarators-fit ((c .before .before .before .before .before .before .before .before .before .before .before .before .before .before .before .before .before .before .before .before .before .before .before) .args .file .now) ((c .before .before .before .before .before .before .before .before .before .before .before .before .before .before .before .before .before .before .before .before .before .before .before) .args .h) (((c .before .before .before .before .before .before .before .before .before .before .before .before .before .before .before .before .before .before .before .before .before .before .before) .pre .0) .is) (((c .before .before .before .before .before .before .before .before .before .before .before .before .before .before .before .before .before .before .before .before .before .before .before) .pre .0) .limits) (sym ((c .before .before .before .before .before .before .before .before .before .before .before .before .before .before .script-totals) .ensures .0) ∙ (c .before .before .before .before .before .before .before .before .before .before .before .before .before .if2) .left), ((c .before .before .before .before .before .before .before .before .before .before .before .before .before .before .before .before .before .before .before .before .before .before .before) .pre .1 .1 .1 .1 .0, ((c .before .before .before .before .before .before .before .before .before .before .before .before .before .before .before .before .before .before .before .before .before .before .before) .pre .1 .1 .1 .1 .1 .0, (c .before .before .before .before .before .before .before .before .before .before .before .before .before .before .before .before .before .before .before .before .before .before .before) .pre .1 .1 .1 .1 .1 .1 .1 .1)))))
+names-are-declared-twice-requires c κs = (((c .before .before .before .before .before .before .before .before .before .before .before .before .before .before .before .before .before .before .before .before .before .before .before) .pre .0) .is, (length-said ((c .before .before .before .before .before .before .before .before .before .before .before .before .before .before .before .before .before .before .before .before .before .before .before) .args .file .now) ((c .before .before .before .before .before .before .before .before .before .before .before .before .before .before .before .before .before .before .before .before .before .before .before) .args .h) (((c .before .before .before .before .before .before .before .before .before .before .before .before .before .before .before .before .before .before .before .before .before .before .before) .pre .0) .measured), (file-declarators-fit ((c .before .before .before .before .before .before .before .before .before .before .before .before .before .before .before .before .before .before .before .before .before .before .before) .args .file .now) ((c .before .before .before .before .before .before .before .before .before .before .before .before .before .before .before .before .before .before .before .before .before .before .before) .args .h) (((c .before .before .before .before .before .before .before .before .before .before .before .before .before .before .before .before .before .before .before .before .before .before .before) .pre .0) .is) (((c .before .before .before .before .before .before .before .before .before .before .before .before .before .before .before .before .before .before .before .before .before .before .before) .pre .0) .limits) (sym ((c .before .before .before .before .before .before .before .before .before .before .before .before .before .before .script-totals) .ensures .0) ∙ (c .before .before .before .before .before .before .before .before .before .before .before .before .before .if2) .left), ((c .before .before .before .before .before .before .before .before .before .before .before .before .before .before .before .before .before .before .before .before .before .before .before) .pre .1 .1 .1 .1 .0, ((c .before .before .before .before .before .before .before .before .before .before .before .before .before .before .before .before .before .before .before .before .before .before .before) .pre .1 .1 .1 .1 .1 .0, (c .before .before .before .before .before .before .before .before .before .before .before .before .before .before .before .before .before .before .before .before .before .before .before) .pre .1 .1 .1 .1 .1 .1 .1 .1 .0)))))
 
 same-length-7 : tie.Need-same-length-7
 same-length-7 c = search needs
@@ -77,11 +66,10 @@ same-length-10 : tie.Need-same-length-10
 same-length-10 c = search needs
 
 returns-5 : tie.Need-returns-5
-unfolding refusal
-returns-5 c = rw (((c .before .before .before .before .before .before .before .before .before .before .before .before .before .before .before .before .before .before .before .before .before .before .before .before .before .before .before) .pre .0) .script, ← ((c .before .before .before .before .before .before .before .before .before .before .before .before .before .before .before .before .before .before .before .before .before .before .before .before .before .before .before) .pre .0) .is, ((c .before .before .before .before .before .before .before .before .before .before .before .before .before .before .before .before .before .before .before .before .before .before .before .before .before .before .before) .pre .0) .version, ((c .before .before .before .before .before .before .before .before .before .before .before .before .before .before .before .before .before .before .before .before .before .before .before .before .before .before .before) .pre .0) .limits, ((c .before .before .before .before .before .before .before .before .before .before .before .before .before .before .before .before .before .before .before .before .before .before .before .before .before .before .before) .pre .0) .measured, ← (c .before .before .before .before .before .before .before .before .before .before .before .before .before .before .before .before .before .before .before .before .before .facts-are-bad) .ensures, (c .before .before .before .before .before .before .before .before .before .before .before .before .before .before .before .before .before .before .before .if1) .left, ← (c .before .before .before .before .before .before .before .before .before .before .before .before .before .before .before .before .before .before .script-totals) .ensures .0, (c .before .before .before .before .before .before .before .before .before .before .before .before .before .before .before .before .before .if2) .left, ← (c .before .before .before .before .before .before .before .before .before .before .before .before .before .node-rows) .ensures .0, (c .before .before .before .before .before .before .if3) .left, ← (c .before .before .before .before .before .before .before .before .before .before .before .before .before .node-rows) .ensures .1 .0, (c .before .before .before .before .before .if4) .left, ← (c .before .before .before .names-are-declared-twice) .ensures, (c .if5) .taken)
+returns-5 c = rw ((c .before .before .before .before .before .before .before .before .before .before .before .before .before .before .before .before .before .before .before .if1) .left, sym ((c .before .before .before .before .before .before .before .before .before .before .before .before .before .before .before .before .before .before .script-totals) .ensures .0) ∙ (c .before .before .before .before .before .before .before .before .before .before .before .before .before .before .before .before .before .if2) .left, sym ((c .before .before .before .before .before .before .before .before .before .before .before .before .before .node-rows) .ensures .0) ∙ (c .before .before .before .before .before .before .if3) .left, sym (second-test _ _ _ _ ((c .before .before .before .before .before .before .before .before .before .before .before .before .before .node-rows) .ensures .1 .0) ((c .before .before .before .before .before .before .before .before .before .before .before .before .before .node-rows) .ensures .0) ((c .before .before .before .before .before .before .if3) .left)) ∙ (c .before .before .before .before .before .if4) .left, sym ((c .before .before .before .names-are-declared-twice) .ensures) ∙ (c .if5) .taken) at (rows-tested ((c .before .before .before .before .before .before .before .before .before .before .before .before .before .before .before .before .before .before .before .before .before .before .before .before .before .before .before) .args .file .now) ((c .before .before .before .before .before .before .before .before .before .before .before .before .before .before .before .before .before .before .before .before .before .before .before .before .before .before .before) .args .h) ((c .before .before .before .before .before .before .before .before .before .before .before .before .before .before .before .before .before .before .before .before .before .before .before .before .before .before .before) .args .room) ((c .before .before .before .before .before .before .before .before .before .before .before .before .before .before .before .before .before .before .before .before .before .facts-are-bad) .result) ((c .before .before .before .before .before .before .before .before .before .before .before .before .before .before .before .before .before .before .before .before .room-is-short) .result) ((c .before .before .before .before .before .before .before .before .before .before .before .before .before .before .before .before .before .before .before .before .before .before .before .before .before .before .before) .pre .0) ((c .before .before .before .before .before .before .before .before .before .before .before .before .before .before .before .before .before .before .before .before .before .facts-are-bad) .ensures) ((c .before .before .before .before .before .before .before .before .before .before .before .before .before .before .before .before .before .before .before .before .room-is-short) .ensures))
 
 counts-are-bad-requires : tie.Need-counts-are-bad-requires
-counts-are-bad-requires c κs = (((c .before .before .before .before .before .before .before .before .before .before .before .before .before .before .before .before .before .before .before .before .before .before .before .before .before .before .before .before .before) .pre .0) .is, (length-said ((c .before .before .before .before .before .before .before .before .before .before .before .before .before .before .before .before .before .before .before .before .before .before .before .before .before .before .before .before .before) .args .file .now) ((c .before .before .before .before .before .before .before .before .before .before .before .before .before .before .before .before .before .before .before .before .before .before .before .before .before .before .before .before .before) .args .h) (((c .before .before .before .before .before .before .before .before .before .before .before .before .before .before .before .before .before .before .before .before .before .before .before .before .before .before .before .before .before) .pre .0) .measured), (omega (arith, names-fit ((c .before .before .before .before .before .before .before .before .before .before .before .before .before .before .before .before .before .before .before .before .before .before .before .before .before .before .before .before .before) .args .h) (((c .before .before .before .before .before .before .before .before .before .before .before .before .before .before .before .before .before .before .before .before .before .before .before .before .before .before .before .before .before) .pre .0) .limits), (c .before .before .before .before .before .before .before .before .before .before .before .before .before .before .before .before .before .before .before .before .before .before .before .before .before .before .before .before .before) .pre .1 .1 .0), (omega (arith, names-fit ((c .before .before .before .before .before .before .before .before .before .before .before .before .before .before .before .before .before .before .before .before .before .before .before .before .before .before .before .before .before) .args .h) (((c .before .before .before .before .before .before .before .before .before .before .before .before .before .before .before .before .before .before .before .before .before .before .before .before .before .before .before .before .before) .pre .0) .limits), (c .before .before .before .before .before .before .before .before .before .before .before .before .before .before .before .before .before .before .before .before .before .before .before .before .before .before .before .before .before) .pre .1 .1 .1 .0), ((c .before .before .before .before .before .before .before .before .before .before .before .before .before .before .before .node-rows) .ensures .1 .1 .0, (c .before .before .before .before .before .before .before .before .before .before .before .before .before .before .before .node-rows) .ensures .1 .1 .1)))))
+counts-are-bad-requires c κs = (((c .before .before .before .before .before .before .before .before .before .before .before .before .before .before .before .before .before .before .before .before .before .before .before .before .before .before .before .before .before) .pre .0) .is, (length-said ((c .before .before .before .before .before .before .before .before .before .before .before .before .before .before .before .before .before .before .before .before .before .before .before .before .before .before .before .before .before) .args .file .now) ((c .before .before .before .before .before .before .before .before .before .before .before .before .before .before .before .before .before .before .before .before .before .before .before .before .before .before .before .before .before) .args .h) (((c .before .before .before .before .before .before .before .before .before .before .before .before .before .before .before .before .before .before .before .before .before .before .before .before .before .before .before .before .before) .pre .0) .measured), (omega (arith, names-fit ((c .before .before .before .before .before .before .before .before .before .before .before .before .before .before .before .before .before .before .before .before .before .before .before .before .before .before .before .before .before) .args .h) (((c .before .before .before .before .before .before .before .before .before .before .before .before .before .before .before .before .before .before .before .before .before .before .before .before .before .before .before .before .before) .pre .0) .limits), (c .before .before .before .before .before .before .before .before .before .before .before .before .before .before .before .before .before .before .before .before .before .before .before .before .before .before .before .before .before) .pre .1 .1 .0), (omega (arith, names-fit ((c .before .before .before .before .before .before .before .before .before .before .before .before .before .before .before .before .before .before .before .before .before .before .before .before .before .before .before .before .before) .args .h) (((c .before .before .before .before .before .before .before .before .before .before .before .before .before .before .before .before .before .before .before .before .before .before .before .before .before .before .before .before .before) .pre .0) .limits), (c .before .before .before .before .before .before .before .before .before .before .before .before .before .before .before .before .before .before .before .before .before .before .before .before .before .before .before .before .before) .pre .1 .1 .1 .0), ((c .before .before .before .before .before .before .before .before .before .before .before .before .before .before .before .node-rows) .ensures .1 .1 .0 ((c .before .before .before .before .before .before .before .if4) .left), (c .before .before .before .before .before .before .before .before .before .before .before .before .before .before .before .node-rows) .ensures .1 .1 .1 ((c .before .before .before .before .before .before .before .if4) .left))))))
 
 same-length-11 : tie.Need-same-length-11
 same-length-11 c = search needs
@@ -96,8 +84,7 @@ same-length-14 : tie.Need-same-length-14
 same-length-14 c = search needs
 
 returns-6 : tie.Need-returns-6
-unfolding refusal
-returns-6 c = rw (((c .before .before .before .before .before .before .before .before .before .before .before .before .before .before .before .before .before .before .before .before .before .before .before .before .before .before .before .before .before .before .before) .pre .0) .script, ← ((c .before .before .before .before .before .before .before .before .before .before .before .before .before .before .before .before .before .before .before .before .before .before .before .before .before .before .before .before .before .before .before) .pre .0) .is, ((c .before .before .before .before .before .before .before .before .before .before .before .before .before .before .before .before .before .before .before .before .before .before .before .before .before .before .before .before .before .before .before) .pre .0) .version, ((c .before .before .before .before .before .before .before .before .before .before .before .before .before .before .before .before .before .before .before .before .before .before .before .before .before .before .before .before .before .before .before) .pre .0) .limits, ((c .before .before .before .before .before .before .before .before .before .before .before .before .before .before .before .before .before .before .before .before .before .before .before .before .before .before .before .before .before .before .before) .pre .0) .measured, ← (c .before .before .before .before .before .before .before .before .before .before .before .before .before .before .before .before .before .before .before .before .before .before .before .before .before .facts-are-bad) .ensures, (c .before .before .before .before .before .before .before .before .before .before .before .before .before .before .before .before .before .before .before .before .before .before .before .if1) .left, ← (c .before .before .before .before .before .before .before .before .before .before .before .before .before .before .before .before .before .before .before .before .before .before .script-totals) .ensures .0, (c .before .before .before .before .before .before .before .before .before .before .before .before .before .before .before .before .before .before .before .before .before .if2) .left, ← (c .before .before .before .before .before .before .before .before .before .before .before .before .before .before .before .before .before .node-rows) .ensures .0, (c .before .before .before .before .before .before .before .before .before .before .if3) .left, ← (c .before .before .before .before .before .before .before .before .before .before .before .before .before .before .before .before .before .node-rows) .ensures .1 .0, (c .before .before .before .before .before .before .before .before .before .if4) .left, ← (c .before .before .before .before .before .before .before .names-are-declared-twice) .ensures, (c .before .before .before .before .if5) .left, ← (c .before .counts-are-bad) .ensures, (c .if6) .taken)
+returns-6 c = rw ((c .before .before .before .before .before .before .before .before .before .before .before .before .before .before .before .before .before .before .before .before .before .before .before .if1) .left, sym ((c .before .before .before .before .before .before .before .before .before .before .before .before .before .before .before .before .before .before .before .before .before .before .script-totals) .ensures .0) ∙ (c .before .before .before .before .before .before .before .before .before .before .before .before .before .before .before .before .before .before .before .before .before .if2) .left, sym ((c .before .before .before .before .before .before .before .before .before .before .before .before .before .before .before .before .before .node-rows) .ensures .0) ∙ (c .before .before .before .before .before .before .before .before .before .before .if3) .left, sym (second-test _ _ _ _ ((c .before .before .before .before .before .before .before .before .before .before .before .before .before .before .before .before .before .node-rows) .ensures .1 .0) ((c .before .before .before .before .before .before .before .before .before .before .before .before .before .before .before .before .before .node-rows) .ensures .0) ((c .before .before .before .before .before .before .before .before .before .before .if3) .left)) ∙ (c .before .before .before .before .before .before .before .before .before .if4) .left, sym ((c .before .before .before .before .before .before .before .names-are-declared-twice) .ensures) ∙ (c .before .before .before .before .if5) .left, sym ((c .before .counts-are-bad) .ensures) ∙ (c .if6) .taken) at (rows-tested ((c .before .before .before .before .before .before .before .before .before .before .before .before .before .before .before .before .before .before .before .before .before .before .before .before .before .before .before .before .before .before .before) .args .file .now) ((c .before .before .before .before .before .before .before .before .before .before .before .before .before .before .before .before .before .before .before .before .before .before .before .before .before .before .before .before .before .before .before) .args .h) ((c .before .before .before .before .before .before .before .before .before .before .before .before .before .before .before .before .before .before .before .before .before .before .before .before .before .before .before .before .before .before .before) .args .room) ((c .before .before .before .before .before .before .before .before .before .before .before .before .before .before .before .before .before .before .before .before .before .before .before .before .before .facts-are-bad) .result) ((c .before .before .before .before .before .before .before .before .before .before .before .before .before .before .before .before .before .before .before .before .before .before .before .before .room-is-short) .result) ((c .before .before .before .before .before .before .before .before .before .before .before .before .before .before .before .before .before .before .before .before .before .before .before .before .before .before .before .before .before .before .before) .pre .0) ((c .before .before .before .before .before .before .before .before .before .before .before .before .before .before .before .before .before .before .before .before .before .before .before .before .before .facts-are-bad) .ensures) ((c .before .before .before .before .before .before .before .before .before .before .before .before .before .before .before .before .before .before .before .before .before .before .before .before .room-is-short) .ensures))
 
 same-length-15 : tie.Need-same-length-15
 same-length-15 c = search needs
@@ -112,8 +99,7 @@ same-length-18 : tie.Need-same-length-18
 same-length-18 c = search needs
 
 returns-7 : tie.Need-returns-7
-unfolding refusal
-returns-7 c = rw (((c .before .before .before .before .before .before .before .before .before .before .before .before .before .before .before .before .before .before .before .before .before .before .before .before .before .before .before .before .before .before .before .before) .pre .0) .script, ← ((c .before .before .before .before .before .before .before .before .before .before .before .before .before .before .before .before .before .before .before .before .before .before .before .before .before .before .before .before .before .before .before .before) .pre .0) .is, ((c .before .before .before .before .before .before .before .before .before .before .before .before .before .before .before .before .before .before .before .before .before .before .before .before .before .before .before .before .before .before .before .before) .pre .0) .version, ((c .before .before .before .before .before .before .before .before .before .before .before .before .before .before .before .before .before .before .before .before .before .before .before .before .before .before .before .before .before .before .before .before) .pre .0) .limits, ((c .before .before .before .before .before .before .before .before .before .before .before .before .before .before .before .before .before .before .before .before .before .before .before .before .before .before .before .before .before .before .before .before) .pre .0) .measured, ← (c .before .before .before .before .before .before .before .before .before .before .before .before .before .before .before .before .before .before .before .before .before .before .before .before .before .before .facts-are-bad) .ensures, (c .before .before .before .before .before .before .before .before .before .before .before .before .before .before .before .before .before .before .before .before .before .before .before .before .if1) .left, ← (c .before .before .before .before .before .before .before .before .before .before .before .before .before .before .before .before .before .before .before .before .before .before .before .script-totals) .ensures .0, (c .before .before .before .before .before .before .before .before .before .before .before .before .before .before .before .before .before .before .before .before .before .before .if2) .left, ← (c .before .before .before .before .before .before .before .before .before .before .before .before .before .before .before .before .before .before .node-rows) .ensures .0, (c .before .before .before .before .before .before .before .before .before .before .before .if3) .left, ← (c .before .before .before .before .before .before .before .before .before .before .before .before .before .before .before .before .before .before .node-rows) .ensures .1 .0, (c .before .before .before .before .before .before .before .before .before .before .if4) .left, ← (c .before .before .before .before .before .before .before .before .names-are-declared-twice) .ensures, (c .before .before .before .before .before .if5) .left, ← (c .before .before .counts-are-bad) .ensures, (c .before .if6) .left, ← (c .before .before .before .before .before .before .before .before .before .before .before .before .before .before .before .before .before .before .before .before .before .before .before .before .before .room-is-short) .ensures, (c .if7) .taken)
+returns-7 c = rw ((c .before .before .before .before .before .before .before .before .before .before .before .before .before .before .before .before .before .before .before .before .before .before .before .before .if1) .left, sym ((c .before .before .before .before .before .before .before .before .before .before .before .before .before .before .before .before .before .before .before .before .before .before .before .script-totals) .ensures .0) ∙ (c .before .before .before .before .before .before .before .before .before .before .before .before .before .before .before .before .before .before .before .before .before .before .if2) .left, sym ((c .before .before .before .before .before .before .before .before .before .before .before .before .before .before .before .before .before .before .node-rows) .ensures .0) ∙ (c .before .before .before .before .before .before .before .before .before .before .before .if3) .left, sym (second-test _ _ _ _ ((c .before .before .before .before .before .before .before .before .before .before .before .before .before .before .before .before .before .before .node-rows) .ensures .1 .0) ((c .before .before .before .before .before .before .before .before .before .before .before .before .before .before .before .before .before .before .node-rows) .ensures .0) ((c .before .before .before .before .before .before .before .before .before .before .before .if3) .left)) ∙ (c .before .before .before .before .before .before .before .before .before .before .if4) .left, sym ((c .before .before .before .before .before .before .before .before .names-are-declared-twice) .ensures) ∙ (c .before .before .before .before .before .if5) .left, sym ((c .before .before .counts-are-bad) .ensures) ∙ (c .before .if6) .left, (c .if7) .taken) at (rows-tested ((c .before .before .before .before .before .before .before .before .before .before .before .before .before .before .before .before .before .before .before .before .before .before .before .before .before .before .before .before .before .before .before .before) .args .file .now) ((c .before .before .before .before .before .before .before .before .before .before .before .before .before .before .before .before .before .before .before .before .before .before .before .before .before .before .before .before .before .before .before .before) .args .h) ((c .before .before .before .before .before .before .before .before .before .before .before .before .before .before .before .before .before .before .before .before .before .before .before .before .before .before .before .before .before .before .before .before) .args .room) ((c .before .before .before .before .before .before .before .before .before .before .before .before .before .before .before .before .before .before .before .before .before .before .before .before .before .before .facts-are-bad) .result) ((c .before .before .before .before .before .before .before .before .before .before .before .before .before .before .before .before .before .before .before .before .before .before .before .before .before .room-is-short) .result) ((c .before .before .before .before .before .before .before .before .before .before .before .before .before .before .before .before .before .before .before .before .before .before .before .before .before .before .before .before .before .before .before .before) .pre .0) ((c .before .before .before .before .before .before .before .before .before .before .before .before .before .before .before .before .before .before .before .before .before .before .before .before .before .before .facts-are-bad) .ensures) ((c .before .before .before .before .before .before .before .before .before .before .before .before .before .before .before .before .before .before .before .before .before .before .before .before .before .room-is-short) .ensures))
 
 same-length-19 : tie.Need-same-length-19
 same-length-19 c = search needs
@@ -128,8 +114,7 @@ same-length-22 : tie.Need-same-length-22
 same-length-22 c = search needs
 
 returns-8 : tie.Need-returns-8
-unfolding refusal
-returns-8 c = rw (((c .before .before .before .before .before .before .before .before .before .before .before .before .before .before .before .before .before .before .before .before .before .before .before .before .before .before .before .before .before .before .before .before) .pre .0) .script, ← ((c .before .before .before .before .before .before .before .before .before .before .before .before .before .before .before .before .before .before .before .before .before .before .before .before .before .before .before .before .before .before .before .before) .pre .0) .is, ((c .before .before .before .before .before .before .before .before .before .before .before .before .before .before .before .before .before .before .before .before .before .before .before .before .before .before .before .before .before .before .before .before) .pre .0) .version, ((c .before .before .before .before .before .before .before .before .before .before .before .before .before .before .before .before .before .before .before .before .before .before .before .before .before .before .before .before .before .before .before .before) .pre .0) .limits, ((c .before .before .before .before .before .before .before .before .before .before .before .before .before .before .before .before .before .before .before .before .before .before .before .before .before .before .before .before .before .before .before .before) .pre .0) .measured, ← (c .before .before .before .before .before .before .before .before .before .before .before .before .before .before .before .before .before .before .before .before .before .before .before .before .before .before .facts-are-bad) .ensures, (c .before .before .before .before .before .before .before .before .before .before .before .before .before .before .before .before .before .before .before .before .before .before .before .before .if1) .left, ← (c .before .before .before .before .before .before .before .before .before .before .before .before .before .before .before .before .before .before .before .before .before .before .before .script-totals) .ensures .0, (c .before .before .before .before .before .before .before .before .before .before .before .before .before .before .before .before .before .before .before .before .before .before .if2) .left, ← (c .before .before .before .before .before .before .before .before .before .before .before .before .before .before .before .before .before .before .node-rows) .ensures .0, (c .before .before .before .before .before .before .before .before .before .before .before .if3) .left, ← (c .before .before .before .before .before .before .before .before .before .before .before .before .before .before .before .before .before .before .node-rows) .ensures .1 .0, (c .before .before .before .before .before .before .before .before .before .before .if4) .left, ← (c .before .before .before .before .before .before .before .before .names-are-declared-twice) .ensures, (c .before .before .before .before .before .if5) .left, ← (c .before .before .counts-are-bad) .ensures, (c .before .if6) .left, ← (c .before .before .before .before .before .before .before .before .before .before .before .before .before .before .before .before .before .before .before .before .before .before .before .before .before .room-is-short) .ensures, (c .if7) .left)
+returns-8 c = rw ((c .before .before .before .before .before .before .before .before .before .before .before .before .before .before .before .before .before .before .before .before .before .before .before .before .if1) .left, sym ((c .before .before .before .before .before .before .before .before .before .before .before .before .before .before .before .before .before .before .before .before .before .before .before .script-totals) .ensures .0) ∙ (c .before .before .before .before .before .before .before .before .before .before .before .before .before .before .before .before .before .before .before .before .before .before .if2) .left, sym ((c .before .before .before .before .before .before .before .before .before .before .before .before .before .before .before .before .before .before .node-rows) .ensures .0) ∙ (c .before .before .before .before .before .before .before .before .before .before .before .if3) .left, sym (second-test _ _ _ _ ((c .before .before .before .before .before .before .before .before .before .before .before .before .before .before .before .before .before .before .node-rows) .ensures .1 .0) ((c .before .before .before .before .before .before .before .before .before .before .before .before .before .before .before .before .before .before .node-rows) .ensures .0) ((c .before .before .before .before .before .before .before .before .before .before .before .if3) .left)) ∙ (c .before .before .before .before .before .before .before .before .before .before .if4) .left, sym ((c .before .before .before .before .before .before .before .before .names-are-declared-twice) .ensures) ∙ (c .before .before .before .before .before .if5) .left, sym ((c .before .before .counts-are-bad) .ensures) ∙ (c .before .if6) .left, (c .if7) .left) at (rows-tested ((c .before .before .before .before .before .before .before .before .before .before .before .before .before .before .before .before .before .before .before .before .before .before .before .before .before .before .before .before .before .before .before .before) .args .file .now) ((c .before .before .before .before .before .before .before .before .before .before .before .before .before .before .before .before .before .before .before .before .before .before .before .before .before .before .before .before .before .before .before .before) .args .h) ((c .before .before .before .before .before .before .before .before .before .before .before .before .before .before .before .before .before .before .before .before .before .before .before .before .before .before .before .before .before .before .before .before) .args .room) ((c .before .before .before .before .before .before .before .before .before .before .before .before .before .before .before .before .before .before .before .before .before .before .before .before .before .before .facts-are-bad) .result) ((c .before .before .before .before .before .before .before .before .before .before .before .before .before .before .before .before .before .before .before .before .before .before .before .before .before .room-is-short) .result) ((c .before .before .before .before .before .before .before .before .before .before .before .before .before .before .before .before .before .before .before .before .before .before .before .before .before .before .before .before .before .before .before .before) .pre .0) ((c .before .before .before .before .before .before .before .before .before .before .before .before .before .before .before .before .before .before .before .before .before .before .before .before .before .before .facts-are-bad) .ensures) ((c .before .before .before .before .before .before .before .before .before .before .before .before .before .before .before .before .before .before .before .before .before .before .before .before .before .room-is-short) .ensures))
 
 pub check-spec : {M : Type 1} → statement M
 check-spec =

@@ -15,7 +15,7 @@ slice-aggregate-check-3 : tie.Need-slice-aggregate-check-3
 slice-aggregate-check-3 c = search needs
 
 check-requires : tie.Need-check-requires
-check-requires c κs = ((c .before .before .before .before .before .before) .pre .0, ((c .before .before .before .before .before .before) .pre .1, (omega arith, (omega arith, (omega arith, (omega arith, (λ k h. getD-replicate 256 k 0 0 h, (λ k h. getD-replicate 256 k 0 0 h, λ k h. getD-replicate 256 k 0 0 h))))))))
+check-requires c κs = ((c .before .before .before .before .before .before) .pre .0, ((c .before .before .before .before .before .before) .pre .1, (omega arith, (omega arith, (omega arith, (omega arith, (λ k h. getD-replicate 256 k 0 0 h, (λ k h. getD-replicate 256 k 0 0 h, (λ k h. getD-replicate 256 k 0 0 h, (omega arith, omega arith))))))))))
 
 same-length : tie.Need-same-length
 same-length c = search needs

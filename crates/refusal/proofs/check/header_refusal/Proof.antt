@@ -1,9 +1,8 @@
 -- `refusal::check::header_refusal` meets its contract. Assumes nothing.
-use native.Mathlib.Omega.{arith}
-use mathlib.Core.Path.{sym, _∙_, subst}
-use Rattle.records.specs.Refusal.{refusal}
-use Rattle.refusal.specs.Passing.{HeaderPasses}
+use mathlib.Core.Path.{sym, _∙_}
+use Rattle.refusal.specs.Passing.{headerRefusal}
 use Rattle.refusal.proofs.Limits.{long-enough}
+use Rattle.refusal.proofs.Header.{header-tested}
 use borrow.Author.Needs.{needs}
 use Rattle.refusal.proofs.check.header_refusal.Statement.{statement}
 use Rattle.refusal.proofs.check.header_refusal.Tie as tie
@@ -12,8 +11,8 @@ not-a-script-requires : tie.Need-not-a-script-requires
 not-a-script-requires c κs = search needs
 
 returns : tie.Need-returns
-unfolding refusal
-returns c = (λ z. absurd (omega (arith, z)), λ _ room. rw (← (c .before .not-a-script) .ensures, (c .if1) .taken))
+unfolding headerRefusal
+returns c = rw (← (c .before .not-a-script) .ensures, (c .if1) .taken)
 
 header-of-requires : tie.Need-header-of-requires
 header-of-requires c κs = long-enough ((c .before .before .before) .args .file .now) (sym ((c .before .not-a-script) .ensures) ∙ (c .if1) .left)
@@ -25,22 +24,19 @@ outside-limits-requires : tie.Need-outside-limits-requires
 outside-limits-requires c κs = search needs
 
 returns-2 : tie.Need-returns-2
-unfolding refusal
-returns-2 c = (λ z. absurd (omega (arith, z)), λ _ room. rw (← (c .before .before .before .before .before .not-a-script) .ensures, (c .before .before .before .before .if1) .left, ← (c .before .before .before .header-of) .ensures, ← (c .before .before .other-version) .ensures, (c .if2) .taken))
+returns-2 c = rw ((c .before .before .before .before .if1) .left, (c .if2) .taken) at (header-tested ((c .before .before .before .before .before .before .before) .args .file .now) ((c .before .before .before .header-of) .result) ((c .before .before .before .before .before .not-a-script) .result) ((c .before .before .other-version) .result) ((c .before .outside-limits) .result) ((c .before .before .before .before .before .not-a-script) .ensures) ((c .before .before .before .header-of) .ensures) ((c .before .before .other-version) .ensures) ((c .before .outside-limits) .ensures))
 
 returns-3 : tie.Need-returns-3
-unfolding refusal
-returns-3 c = (λ z. absurd (omega (arith, z)), λ _ room. rw (← (c .before .before .before .before .before .before .not-a-script) .ensures, (c .before .before .before .before .before .if1) .left, ← (c .before .before .before .before .header-of) .ensures, ← (c .before .before .before .other-version) .ensures, (c .before .if2) .left, ← (c .before .before .outside-limits) .ensures, (c .if3) .taken))
+returns-3 c = rw ((c .before .before .before .before .before .if1) .left, (c .before .if2) .left, (c .if3) .taken) at (header-tested ((c .before .before .before .before .before .before .before .before) .args .file .now) ((c .before .before .before .before .header-of) .result) ((c .before .before .before .before .before .before .not-a-script) .result) ((c .before .before .before .other-version) .result) ((c .before .before .outside-limits) .result) ((c .before .before .before .before .before .before .not-a-script) .ensures) ((c .before .before .before .before .header-of) .ensures) ((c .before .before .before .other-version) .ensures) ((c .before .before .outside-limits) .ensures))
 
 other-length-requires : tie.Need-other-length-requires
 other-length-requires c κs = search needs
 
 returns-4 : tie.Need-returns-4
-unfolding refusal
-returns-4 c = (λ z. absurd (omega (arith, z)), λ _ room. rw (← (c .before .before .before .before .before .before .before .before .not-a-script) .ensures, (c .before .before .before .before .before .before .before .if1) .left, ← (c .before .before .before .before .before .before .header-of) .ensures, ← (c .before .before .before .before .before .other-version) .ensures, (c .before .before .before .if2) .left, ← (c .before .before .before .before .outside-limits) .ensures, (c .before .before .if3) .left, ← (c .before .other-length) .ensures, (c .if4) .taken))
+returns-4 c = rw ((c .before .before .before .before .before .before .before .if1) .left, (c .before .before .before .if2) .left, (c .before .before .if3) .left, sym ((c .before .other-length) .ensures) ∙ (c .if4) .taken) at (header-tested ((c .before .before .before .before .before .before .before .before .before .before) .args .file .now) ((c .before .before .before .before .before .before .header-of) .result) ((c .before .before .before .before .before .before .before .before .not-a-script) .result) ((c .before .before .before .before .before .other-version) .result) ((c .before .before .before .before .outside-limits) .result) ((c .before .before .before .before .before .before .before .before .not-a-script) .ensures) ((c .before .before .before .before .before .before .header-of) .ensures) ((c .before .before .before .before .before .other-version) .ensures) ((c .before .before .before .before .outside-limits) .ensures))
 
 returns-5 : tie.Need-returns-5
-returns-5 c = (λ _. subst (HeaderPasses ((c .before .before .before .before .before .before .before .before .before .before) .args .file .now)) ((c .before .before .before .before .before .before .header-of) .ensures) (record { is = (c .before .before .before .before .before .before .header-of) .ensures; script = sym ((c .before .before .before .before .before .before .before .before .not-a-script) .ensures) ∙ (c .before .before .before .before .before .before .before .if1) .left; version = sym ((c .before .before .before .before .before .other-version) .ensures) ∙ (c .before .before .before .if2) .left; limits = sym ((c .before .before .before .before .outside-limits) .ensures) ∙ (c .before .before .if3) .left; measured = sym ((c .before .other-length) .ensures) ∙ (c .if4) .left }), λ z. absurd (omega (arith, z)))
+returns-5 c = rw ((c .before .before .before .before .before .before .before .if1) .left, (c .before .before .before .if2) .left, (c .before .before .if3) .left, sym ((c .before .other-length) .ensures) ∙ (c .if4) .left) at (header-tested ((c .before .before .before .before .before .before .before .before .before .before) .args .file .now) ((c .before .before .before .before .before .before .header-of) .result) ((c .before .before .before .before .before .before .before .before .not-a-script) .result) ((c .before .before .before .before .before .other-version) .result) ((c .before .before .before .before .outside-limits) .result) ((c .before .before .before .before .before .before .before .before .not-a-script) .ensures) ((c .before .before .before .before .before .before .header-of) .ensures) ((c .before .before .before .before .before .other-version) .ensures) ((c .before .before .before .before .outside-limits) .ensures))
 
 pub header-refusal-spec : {M : Type 1} → statement M
 header-refusal-spec =

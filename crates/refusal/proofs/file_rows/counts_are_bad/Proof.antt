@@ -9,9 +9,6 @@ use borrow.Author.Needs.{needs}
 use Rattle.refusal.proofs.file_rows.counts_are_bad.Statement.{statement}
 use Rattle.refusal.proofs.file_rows.counts_are_bad.Tie as tie
 use Rattle.refusal.proofs.file_rows.counts_are_bad.Reads as reads
-use Rattle.refusal.proofs.file_rows.counts_are_bad.Lts as lts
-use Rattle.records.proofs.number.size.Reads as size-reads
-use Rattle.uses.proofs.count.counts_are_good.Reads as counts-are-good-reads
 
 size-requires : tie.Need-size-requires
 size-requires c κs = search needs

@@ -23,34 +23,30 @@ names-are-good-requires c κs = rw ((c .before .part-offsets) .ensures) (omega a
 array-read-scopes-are-good : tie.Need-array-read-scopes-are-good
 array-read-scopes-are-good c = search needs
 
-size-requires-2 : tie.Need-size-requires-2
-size-requires-2 c κs = search needs
-
 scopes-are-good-requires : tie.Need-scopes-are-good-requires
-scopes-are-good-requires c κs = rw ((c .before .before .before .part-offsets) .ensures) (omega arith)
+scopes-are-good-requires c κs = rw ((c .before .before .part-offsets) .ensures) (omega arith)
 
 array-read-frames-are-good : tie.Need-array-read-frames-are-good
 array-read-frames-are-good c = search needs
 
-size-requires-3 : tie.Need-size-requires-3
-size-requires-3 c κs = search needs
+size-requires-2 : tie.Need-size-requires-2
+size-requires-2 c κs = search needs
 
 frames-are-good-requires : tie.Need-frames-are-good-requires
-frames-are-good-requires c κs = rw ((c .before .before .before .before .before .part-offsets) .ensures) (omega arith)
+frames-are-good-requires c κs = rw ((c .before .before .before .before .part-offsets) .ensures) (omega arith)
 
 returns : tie.Need-returns
 unfolding badFacts namesOf scopesOf framesOf
 returns c =
     rw (
-      (c .before .before .before .before .names-are-good) .ensures,
+      (c .before .before .before .names-are-good) .ensures,
       (c .before .before .scopes-are-good) .ensures,
       (c .frames-are-good) .ensures,
-      (c .before .before .before .before .before .before .part-offsets) .ensures,
-      ((c .before .before .before .before .before .size) .ensures) .0,
-      ((c .before .before .before .size2) .ensures) .0,
-      ((c .before .size3) .ensures) .0,
-      ((c .before .before .before .before .before .before .before .before) .pre) .0,
-      records-length (scopeAt ((c .before .before .before .before .before .before .before .before) .args .file .now)) 4 (headerOf ((c .before .before .before .before .before .before .before .before) .args .file .now) .scopes) (scopesStart (headerOf ((c .before .before .before .before .before .before .before .before) .args .file .now))),
+      (c .before .before .before .before .before .part-offsets) .ensures,
+      ((c .before .before .before .before .size) .ensures) .0,
+      ((c .before .size2) .ensures) .0,
+      ((c .before .before .before .before .before .before .before) .pre) .0,
+      records-length (scopeAt ((c .before .before .before .before .before .before .before) .args .file .now)) 4 (headerOf ((c .before .before .before .before .before .before .before) .args .file .now) .scopes) (scopesStart (headerOf ((c .before .before .before .before .before .before .before) .args .file .now))),
     )
 
 pub facts-are-bad-spec : {M : Type 1} → statement M
@@ -62,9 +58,8 @@ facts-are-bad-spec =
     size-requires
     names-are-good-requires
     array-read-scopes-are-good
-    size-requires-2
     scopes-are-good-requires
     array-read-frames-are-good
-    size-requires-3
+    size-requires-2
     frames-are-good-requires
     returns)

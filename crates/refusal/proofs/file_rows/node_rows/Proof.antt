@@ -2,16 +2,12 @@
 use mathlib.Core.Path.{ap}
 use mathlib.Core.Bool.{not}
 use native.Mathlib.Omega.{arith}
-use Rattle.records.specs.File.{declaratorsOf, statementsOf}
+use Rattle.records.specs.File.{namesOf, nodesOf, declaratorsOf, statementsOf}
 use Rattle.records.specs.Node.{badNodes}
-use Rattle.refusal.proofs.Judged.{trees-judged}
+use Rattle.refusal.proofs.Judged.{node-rows-judged, reads-alone, targets-alone, first-of-three}
 use borrow.Author.Needs.{needs}
 use Rattle.refusal.proofs.file_rows.node_rows.Statement.{statement}
 use Rattle.refusal.proofs.file_rows.node_rows.Tie as tie
-use Rattle.refusal.proofs.file_rows.node_rows.Reads as reads
-use Rattle.refusal.proofs.file_rows.node_rows.Lts as lts
-use Rattle.refusal.proofs.scan.scan_nodes.Reads as scan-nodes-reads
-use Rattle.trees.proofs.place.roots_stand.Reads as roots-stand-reads
 
 scan-nodes-requires : tie.Need-scan-nodes-requires
 scan-nodes-requires c κs = search needs
@@ -34,12 +30,17 @@ same-length-3 c = search needs
 returns : tie.Need-returns
 unfolding badNodes
 returns c =
-    let e = (c .before .before .before .before .before .before .before .before .before .before .before .scan-nodes) .ensures in (
+    let e = (c .before .before .before .before .before .before .before .before .before .before .before .scan-nodes) .ensures in
+    let a = (c .before .before .before .before .before .before .before .before .before .before .before .before .before .before .before .before .before .before .before) .args in
+    let p = (c .before .before .before .before .before .before .before .before .before .before .before .before .before .before .before .before .before .before .before) .pre in (
       ap not (e .0),
       (
-        trees-judged (declaratorsOf ((c .before .before .before .before .before .before .before .before .before .before .before .before .before .before .before .before .before .before .before) .args .file .now)) (statementsOf ((c .before .before .before .before .before .before .before .before .before .before .before .before .before .before .before .before .before .before .before) .args .file .now)) _ _ _ _ _ _
-            (e .1 .0) (omega (arith, e .1 .1 .0)) (e .1 .1 .1 .0) ((c .before .before .before .before .before .before .before .before .before .before .before .before .before .before .before .before .before .before .before) .pre .1 .0) ((c .roots-stand) .ensures),
-        (e .1 .1 .1 .1 .0, e .1 .1 .1 .1 .1),
+        node-rows-judged (namesOf (a .file .now)) (declaratorsOf (a .file .now)) (statementsOf (a .file .now)) (nodesOf (a .file .now)) _ _ _ _ _ _
+            (e .0) (e .1 .0) (omega (arith, e .1 .1 .1)) (λ t. e .1 .1 .0 t .entered) (p .1 .0) ((c .roots-stand) .ensures),
+        (
+          λ b. reads-alone (e .1 .1 .0 (first-of-three _ _ _ b)) ((c .before .before .before .before .before .before .before .before .before .before .before .scan-nodes) .kept .1 .1 .1 .0) (p .1 .1 .1 .1 .0),
+          λ b. targets-alone (e .1 .1 .0 (first-of-three _ _ _ b)) ((c .before .before .before .before .before .before .before .before .before .before .before .scan-nodes) .kept .1 .1 .1 .1 .0) (p .1 .1 .1 .1 .1),
+        ),
       ),
     )
 

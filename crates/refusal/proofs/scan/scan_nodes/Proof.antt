@@ -1,51 +1,25 @@
 -- `refusal::scan::scan_nodes` meets its contract. Assumes nothing.
-use mathlib.Core.Path.{refl}
-use Prim.Native.Nat.{_≤_}
+use mathlib.Core.Path.{sym, _∙_}
+use mathlib.Core.Bool.{false≢true}
 use native.Mathlib.Omega.{arith}
-use Rattle.records.specs.Node.{fewest, most}
-use Rattle.records.specs.Place.{isExpression, mayStand, mayBeLoose}
-use Rattle.trees.specs.Stack.{childStands}
-use Rattle.records.specs.Sets.{isIn}
-use Rattle.rows.specs.Rows.{rowKind, rowFlags, rowChildren, goodRange}
-use Rattle.records.proofs.Sets.{allBelow}
-use Rattle.rows.proofs.Computed.{ranges-good, sets-good}
-use Rattle.refusal.proofs.Scans.{scanned-nodes, scanned-trees, scanned-stack, scanned-reads, scanned-targets}
-use borrow.Author.Needs.{needs}
+use borrow.Author.Tests.{not-true, not-false}
+use Rattle.refusal.proofs.Scans.{names-inside, nodes-inside, none-used, whole-nodes, whole-trees, whole-taken, whole-bad, whole-asked}
 use borrow.Author.Needs.{needs}
 use Rattle.refusal.proofs.scan.scan_nodes.Statement.{statement}
 use Rattle.refusal.proofs.scan.scan_nodes.Tie as tie
 use Rattle.refusal.proofs.scan.scan_nodes.Reads as reads
-use Rattle.refusal.proofs.scan.scan_nodes.Lts as lts
-use Rattle.records.proofs.header.part_offsets.Reads as part-offsets-reads
-use Rattle.refusal.proofs.scan.scan_nodes_by.Reads as scan-nodes-by-reads
 
 part-offsets-requires : tie.Need-part-offsets-requires
 part-offsets-requires c κs = search needs
 
-array-read-scan-nodes-by : tie.Need-array-read-scan-nodes-by
-array-read-scan-nodes-by c = search needs
+array-read-from : tie.Need-array-read-from
+array-read-from c = search needs
 
-slice-aggregate-scan-nodes-by : tie.Need-slice-aggregate-scan-nodes-by
-slice-aggregate-scan-nodes-by c = search needs
+size-requires : tie.Need-size-requires
+size-requires c κs = search needs
 
-slice-aggregate-scan-nodes-by-2 : tie.Need-slice-aggregate-scan-nodes-by-2
-slice-aggregate-scan-nodes-by-2 c = search needs
-
-slice-aggregate-scan-nodes-by-3 : tie.Need-slice-aggregate-scan-nodes-by-3
-slice-aggregate-scan-nodes-by-3 c = search needs
-
-slice-aggregate-scan-nodes-by-4 : tie.Need-slice-aggregate-scan-nodes-by-4
-slice-aggregate-scan-nodes-by-4 c = search needs
-
-slice-aggregate-scan-nodes-by-5 : tie.Need-slice-aggregate-scan-nodes-by-5
-slice-aggregate-scan-nodes-by-5 c = search needs
-
-slice-aggregate-scan-nodes-by-6 : tie.Need-slice-aggregate-scan-nodes-by-6
-slice-aggregate-scan-nodes-by-6 c = search needs
-
-scan-nodes-by-requires : tie.Need-scan-nodes-by-requires
-unfolding fewest most allBelow goodRange rowKind rowFlags rowChildren isIn childStands mayStand isExpression mayBeLoose
-scan-nodes-by-requires c κs = ((c .before .before .before .before .before .before .before .before .before .before .before .before .before .before) .pre .0, (rw ((c .before .before .before .before .before .before .before .before .before .part-offsets) .ensures), (refl, (refl, (ranges-good _ _ (omega arith) (omega arith) refl, (sets-good _ _ (omega arith) (omega arith) refl refl, ((c .before .before .before .before .before .before .before .before .before .before .before .before .before .before) .pre .1 .0, ((c .before .before .before .before .before .before .before .before .before .before .before .before .before .before) .pre .1 .1 .0, (c .before .before .before .before .before .before .before .before .before .before .before .before .before .before) .pre .1 .1 .1))))))))
+scan-trees-requires : tie.Need-scan-trees-requires
+scan-trees-requires c κs = (names-inside ((c .before .before .before .before .before .before .before .before .before) .pre .0), (rw ((c .before .before .before .before .part-offsets) .ensures) (omega (arith, nodes-inside ((c .before .before .before .before .before .before .before .before .before) .pre .0), (c .before .before .before .size) .ensures .0)), (omega (arith, (c .before .before .before .size) .ensures .0, (c .before .before .before .before .before .before .before .before .before) .pre .1 .0), ((c .before .before .before .before .before .before .before .before .before) .pre .1 .1 .0, (λ k. omega (arith, none-used ((c .before .before .before .before .before .before .before .before .before) .pre .0) ((c .before .before .before .before .before .before .before .before .before) .args .reads .now) ((c .before .before .before .before .before .before .before .before .before) .pre .1 .1 .1 .0) k, (c .before .before .before .size) .ensures .0), λ k. omega (arith, none-used ((c .before .before .before .before .before .before .before .before .before) .pre .0) ((c .before .before .before .before .before .before .before .before .before) .args .targets .now) ((c .before .before .before .before .before .before .before .before .before) .pre .1 .1 .1 .1) k, (c .before .before .before .size) .ensures .0))))))
 
 same-length : tie.Need-same-length
 same-length c = search needs
@@ -57,33 +31,53 @@ same-length-3 : tie.Need-same-length-3
 same-length-3 c = search needs
 
 returns : tie.Need-returns
-returns c =
-    let p = (c .before .before .before .before .before .before .scan-nodes-by) .ensures .0 in
-    let e : (c .before .before .before .before .before .before .scan-nodes-by) .result .left ≤ 0 = omega (arith, (c .before .before .before .before .before .before .scan-nodes-by) .ensures .1) in (
-      scanned-nodes ((c .before .before .before .before .before .before .before .before .before .before .before .before .before .before .before .before .before .before .before .before .before) .pre .0) p e,
-      (
-        scanned-trees ((c .before .before .before .before .before .before .before .before .before .before .before .before .before .before .before .before .before .before .before .before .before) .pre .0) p e,
-        (
-          omega (arith, p .grown .inside),
-          (scanned-stack ((c .before .before .before .before .before .before .before .before .before .before .before .before .before .before .before .before .before .before .before .before .before) .pre .0) p e, (scanned-reads ((c .before .before .before .before .before .before .before .before .before .before .before .before .before .before .before .before .before .before .before .before .before) .pre .0) p e, scanned-targets ((c .before .before .before .before .before .before .before .before .before .before .before .before .before .before .before .before .before .before .before .before .before) .pre .0) p e)),
-        ),
-      ),
-    )
+returns c = (whole-nodes ((c .before .before .before .before .before .before .before .before .before .before .before .before .before .before .before .before .before) .pre .0) _ _ (rw ((c .before .before .before .before .before .before .before .before .before .before .before .before .part-offsets) .ensures)) ((c .before .before .before .before .before .before .before .before .before .before .before .size) .ensures .0) ((c .before .before .before .before .before .before .before .scan-trees) .result) ((c .before .before .before .before .before .before .before .scan-trees) .ensures .0) ((c .before .before .before .before .before .before .before .scan-trees) .ensures .1 .0) ((c .if1) .taken), (whole-trees ((c .before .before .before .before .before .before .before .before .before .before .before .before .before .before .before .before .before) .pre .0) _ _ (rw ((c .before .before .before .before .before .before .before .before .before .before .before .before .part-offsets) .ensures)) ((c .before .before .before .before .before .before .before .before .before .before .before .size) .ensures .0) _ ((c .before .before .before .before .before .before .before .scan-trees) .ensures .1 .0), (λ e. whole-taken ((c .before .before .before .before .before .before .before .before .before .before .before .before .before .before .before .before .before) .pre .0) _ _ (rw ((c .before .before .before .before .before .before .before .before .before .before .before .before .part-offsets) .ensures)) ((c .before .before .before .before .before .before .before .before .before .before .before .size) .ensures .0) ((c .before .before .before .before .before .before .before .scan-trees) .ensures .1 .1 .0 e), (c .before .before .before .before .before .before .before .scan-trees) .ensures .1 .1 .1 .1 .0)))
+
+same-length-4 : tie.Need-same-length-4
+same-length-4 c = search needs
+
+same-length-5 : tie.Need-same-length-5
+same-length-5 c = search needs
+
+same-length-6 : tie.Need-same-length-6
+same-length-6 c = search needs
+
+returns-2 : tie.Need-returns-2
+returns-2 c = (whole-bad ((c .before .before .before .before .before .before .before .before .before .before .before .before .before .before .before .before .before .before .before) .pre .0) _ _ (rw ((c .before .before .before .before .before .before .before .before .before .before .before .before .before .before .part-offsets) .ensures)) ((c .before .before .before .before .before .before .before .before .before .before .before .before .before .size) .ensures .0) ((c .before .before .before .before .before .before .before .before .before .scan-trees) .result) ((c .before .before .before .before .before .before .before .before .before .scan-trees) .ensures .0) (not-true _ ((c .if2) .taken)), (whole-trees ((c .before .before .before .before .before .before .before .before .before .before .before .before .before .before .before .before .before .before .before) .pre .0) _ _ (rw ((c .before .before .before .before .before .before .before .before .before .before .before .before .before .before .part-offsets) .ensures)) ((c .before .before .before .before .before .before .before .before .before .before .before .before .before .size) .ensures .0) _ ((c .before .before .before .before .before .before .before .before .before .scan-trees) .ensures .1 .0), (λ e. whole-taken ((c .before .before .before .before .before .before .before .before .before .before .before .before .before .before .before .before .before .before .before) .pre .0) _ _ (rw ((c .before .before .before .before .before .before .before .before .before .before .before .before .before .before .part-offsets) .ensures)) ((c .before .before .before .before .before .before .before .before .before .before .before .before .before .size) .ensures .0) ((c .before .before .before .before .before .before .before .before .before .scan-trees) .ensures .1 .1 .0 e), (c .before .before .before .before .before .before .before .before .before .scan-trees) .ensures .1 .1 .1 .1 .0)))
+
+nodes-are-good-requires : tie.Need-nodes-are-good-requires
+nodes-are-good-requires c κs = (names-inside ((c .before .before .before .before .before .before .before .before .before .before .before .before .before .before .before .before .before .before .before .before .before .before) .pre .0), (rw ((c .before .before .before .before .before .before .before .before .before .before .before .before .before .before .before .before .before .part-offsets) .ensures) (omega (arith, nodes-inside ((c .before .before .before .before .before .before .before .before .before .before .before .before .before .before .before .before .before .before .before .before .before .before) .pre .0), (c .before .before .before .before .before .before .before .before .before .before .before .before .before .before .before .before .size) .ensures .0, (c .before .before .before .before .before .before .before .before .before .before .before .before .scan-trees) .ensures .1 .1 .1 .0 .0)), (omega (arith, (c .before .before .before .before .before .before .before .before .before .before .before .before .before .before .before .before .before .before .before .before .before .before) .pre .1 .0, (c .before .before .before .before .before .before .before .before .before .before .before .before .before .before .before .before .size) .ensures .0, (c .before .before .before .before .before .before .before .before .before .before .before .before .scan-trees) .ensures .1 .1 .1 .0 .0, (c .before .before .before .before .before .before .before .before .before .before .before .before .scan-trees) .kept .1 .1 .1 .1 .0), ((omega (arith, (c .before .before .before .before .before .before .before .before .before .before .before .before .before .before .before .before .before .before .before .before .before .before) .pre .1 .1 .0 .0, (c .before .before .before .before .before .before .before .before .before .before .before .before .scan-trees) .kept .1 .1 .1 .1 .1 .0), omega (arith, (c .before .before .before .before .before .before .before .before .before .before .before .before .before .before .before .before .before .before .before .before .before .before) .pre .1 .1 .0 .1, (c .before .before .before .before .before .before .before .before .before .before .before .before .scan-trees) .kept .1 .1 .1 .1 .1 .1 .0)), ((c .before .before .before .before .before .before .before .before .before .before .before .before .scan-trees) .ensures .1 .1 .1 .1 .1 .0, (c .before .before .before .before .before .before .before .before .before .before .before .before .scan-trees) .ensures .1 .1 .1 .1 .1 .1)))))
+
+same-length-7 : tie.Need-same-length-7
+same-length-7 c = search needs
+
+same-length-8 : tie.Need-same-length-8
+same-length-8 c = search needs
+
+same-length-9 : tie.Need-same-length-9
+same-length-9 c = search needs
+
+returns-3 : tie.Need-returns-3
+returns-3 c = (whole-asked ((c .before .before .before .before .before .before .before .before .before .before .before .before .before .before .before .before .before .before .before .before .before .before .before .before .before .before .before .before .before) .pre .0) _ _ (rw ((c .before .before .before .before .before .before .before .before .before .before .before .before .before .before .before .before .before .before .before .before .before .before .before .before .part-offsets) .ensures)) ((c .before .before .before .before .before .before .before .before .before .before .before .before .before .before .before .before .before .before .before .before .before .before .before .size) .ensures .0) ((c .before .before .before .before .before .before .before .before .before .before .before .before .before .before .before .before .before .before .before .scan-trees) .result) ((c .before .before .before .before .before .before .before .before .before .before .before .before .before .before .before .before .before .before .before .scan-trees) .ensures .0) _ (not-false _ ((c .before .before .before .before .before .before .before .before .before .before .if2) .left)) ((c .before .before .before .before .before .before .nodes-are-good) .ensures), (whole-trees ((c .before .before .before .before .before .before .before .before .before .before .before .before .before .before .before .before .before .before .before .before .before .before .before .before .before .before .before .before .before) .pre .0) _ _ (rw ((c .before .before .before .before .before .before .before .before .before .before .before .before .before .before .before .before .before .before .before .before .before .before .before .before .part-offsets) .ensures)) ((c .before .before .before .before .before .before .before .before .before .before .before .before .before .before .before .before .before .before .before .before .before .before .before .size) .ensures .0) _ (sym ((c .before .before .before .before .before .before .before .before .before .before .before .before .if1) .left) ∙ (c .before .before .before .before .before .before .before .before .before .before .before .before .before .before .before .before .before .before .before .scan-trees) .ensures .1 .0), (λ e. absurd (false≢true e), (c .before .before .before .before .before .before .before .before .before .before .before .before .before .before .before .before .before .before .before .scan-trees) .ensures .1 .1 .1 .1 .0)))
 
 pub scan-nodes-spec : {M : Type 1} → statement M
 scan-nodes-spec =
     tie.close
     (tie.spec
     part-offsets-requires
-    array-read-scan-nodes-by
-    slice-aggregate-scan-nodes-by
-    slice-aggregate-scan-nodes-by-2
-    slice-aggregate-scan-nodes-by-3
-    slice-aggregate-scan-nodes-by-4
-    slice-aggregate-scan-nodes-by-5
-    slice-aggregate-scan-nodes-by-6
-    scan-nodes-by-requires
+    array-read-from
+    size-requires
+    scan-trees-requires
     same-length
     same-length-2
     same-length-3
-    returns)
+    returns
+    same-length-4
+    same-length-5
+    same-length-6
+    returns-2
+    nodes-are-good-requires
+    same-length-7
+    same-length-8
+    same-length-9
+    returns-3)

@@ -1,5 +1,4 @@
 -- `reorder::member_part::member_part_blocks_reorder` meets its contract. Assumes nothing.
-use mathlib.Core.Path.{_∙_}
 use Rattle.records.specs.Tree.{nodeOf}
 use Rattle.records.specs.File.{read}
 use Rattle.walk.specs.Context.{contextOf}
@@ -21,8 +20,7 @@ this-expression-blocks-reorder-requires c κs = search needs
 returns-2 : tie.Need-returns-2
 unfolding memberPartBlocksReorder nodeOf contextOf read
 returns-2 c =
-    let start = c .before .before .before .before .before .before in
-    rw ((c .before .before .if1) .left, (c .before .if2) .taken) (c .this-expression-blocks-reorder .ensures ∙ rw (start .pre .0))
+    rw ((c .before .before .if1) .left, (c .before .if2) .taken) (c .this-expression-blocks-reorder .ensures)
 
 returns-3 : tie.Need-returns-3
 unfolding memberPartBlocksReorder nodeOf

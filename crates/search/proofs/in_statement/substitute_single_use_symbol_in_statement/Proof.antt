@@ -11,7 +11,7 @@ is-unsearched-requires : tie.Need-is-unsearched-requires
 is-unsearched-requires c κs = search needs
 
 returns : tie.Need-returns
-returns c = λ ks target rest h. (rest, unsearched _ (sym ((c .before .is-unsearched) .ensures) ∙ (c .if1) .taken) h)
+returns c = λ ks target rest h. (rest, unsearched _ ((c .before .before .before .before .before .before .before .before .args) .target .tree) (sym ((c .before .before .is-unsearched) .ensures) ∙ (c .before .if1) .taken) h)
 
 from-statements-requires : tie.Need-from-statements-requires
 from-statements-requires c κs =

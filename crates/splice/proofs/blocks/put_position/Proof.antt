@@ -1,11 +1,14 @@
 -- `splice::blocks::put_position` meets its contract. Assumes nothing.
 use mathlib.Core.Path.{refl}
-use Prim.Native.Nat.{_+_}
+use Prim.Native.Nat.{_+_, _*_}
 use Rattle.records.specs.Bytes.{u32Bytes}
 use Rattle.splice.proofs.Moves.{overwritten}
 use borrow.Author.Needs.{needs}
 use Rattle.splice.proofs.blocks.put_position.Statement.{statement}
 use Rattle.splice.proofs.blocks.put_position.Tie as tie
+
+mul-start : tie.Need-mul-start
+mul-start c = search needs
 
 add-start : tie.Need-add-start
 add-start c = search needs
@@ -27,13 +30,14 @@ same-length c = search needs
 
 returns : tie.Need-returns
 returns c =
-    let a = (c .before .before .before .before .before) .args in
-    overwritten (a .at + 8) 4 (a .nodes .now) (u32Bytes (a .position)) _ refl ((c .before .before .put-u32) .ensures)
+    let a = (c .before .before .before .before .before .before) .args in
+    overwritten (16 * a .at .0 + 8) 4 (a .nodes .now) (u32Bytes (a .position)) _ refl ((c .before .before .put-u32) .ensures)
 
 pub put-position-spec : {M : Type 1} → statement M
 put-position-spec =
     tie.close
     (tie.spec
+    mul-start
     add-start
     sub-put-u32
     part-put-u32-start

@@ -1,10 +1,14 @@
 -- `splice::blocks::put_record` meets its contract. Assumes nothing.
+use Prim.Native.Nat.{_*_}
 use Rattle.table.specs.Table.{workBytes}
 use Rattle.table.proofs.Laid.{work-length}
 use Rattle.splice.proofs.Moves.{overwritten}
 use borrow.Author.Needs.{needs}
 use Rattle.splice.proofs.blocks.put_record.Statement.{statement}
 use Rattle.splice.proofs.blocks.put_record.Tie as tie
+
+mul-start : tie.Need-mul-start
+mul-start c = search needs
 
 sub-put-work-node : tie.Need-sub-put-work-node
 sub-put-work-node c = search needs
@@ -23,13 +27,14 @@ same-length c = search needs
 
 returns : tie.Need-returns
 returns c =
-    let a = (c .before .before .before .before .before) .args in
-    overwritten (a .at) 16 (a .nodes .now) (workBytes (a .n)) _ (work-length (a .n)) ((c .before .before .put-work-node) .ensures)
+    let a = (c .before .before .before .before .before .before) .args in
+    overwritten (16 * a .at .0) 16 (a .nodes .now) (workBytes (a .n)) _ (work-length (a .n)) ((c .before .before .put-work-node) .ensures)
 
 pub put-record-spec : {M : Type 1} → statement M
 put-record-spec =
     tie.close
     (tie.spec
+    mul-start
     sub-put-work-node
     part-put-work-node-start
     part-put-work-node-end

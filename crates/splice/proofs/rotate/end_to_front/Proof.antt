@@ -12,8 +12,8 @@ use Rattle.splice.proofs.rotate.end_to_front.Tie as tie
 mul-start : tie.Need-mul-start
 mul-start c = search needs
 
-mul-end : tie.Need-mul-end
-mul-end c = search needs
+mul-stop : tie.Need-mul-stop
+mul-stop c = search needs
 
 sub-len : tie.Need-sub-len
 sub-len c = search needs
@@ -30,14 +30,14 @@ part-copy-end c = search needs
 copy-requires : tie.Need-copy-requires
 copy-requires c κs = search needs
 
+sub-put-block : tie.Need-sub-put-block
+sub-put-block c = search needs
+
+add-put-block : tie.Need-add-put-block
+add-put-block c = search needs
+
 sub-move-up : tie.Need-sub-move-up
 sub-move-up c = search needs
-
-add-move-up : tie.Need-add-move-up
-add-move-up c = search needs
-
-sub-move-up-2 : tie.Need-sub-move-up-2
-sub-move-up-2 c = search needs
 
 move-up-requires : tie.Need-move-up-requires
 move-up-requires c κs = search needs
@@ -49,10 +49,10 @@ slice-reshare-prefix-put-block : tie.Need-slice-reshare-prefix-put-block
 slice-reshare-prefix-put-block c = search needs
 
 slice-aggregate-put-block : tie.Need-slice-aggregate-put-block
-slice-aggregate-put-block c = sym (part-read-length (16 * (c .before .before .before .before .before .before .before .before .before .before .before .before .before .before) .args .b) (16 * (c .before .before .before .before .before .before .before .before .before .before .before .before .before .before) .args .c) ((c .before .before .before .before .before .before .before .before .before .before .before .before .before .before) .args .nodes .now) _ (omega arith) (omega arith) ((c .before .before .before .before .before .before .before .before .copy) .ensures .1))
+slice-aggregate-put-block c = sym (part-read-length (16 * (c .before .before .before .before .before .before .before .before .before .before .before .before .before .before .before .before .before .before .before .before .before .before) .args .second .0) (16 * (c .before .before .before .before .before .before .before .before .before .before .before .before .before .before .before .before .before .before .before .before .before .before) .args .end .0) ((c .before .before .before .before .before .before .before .before .before .before .before .before .before .before .before .before .before .before .before .before .before .before) .args .nodes .now) _ (omega arith) (omega arith) ((c .before .before .before .before .before .before .before .before .before .before .before .before .before .before .copy) .ensures .1))
 
 put-block-requires : tie.Need-put-block-requires
-put-block-requires c κs = omega (arith, part-read-length (16 * (c .before .before .before .before .before .before .before .before .before .before .before .before .before .before) .args .b) (16 * (c .before .before .before .before .before .before .before .before .before .before .before .before .before .before) .args .c) ((c .before .before .before .before .before .before .before .before .before .before .before .before .before .before) .args .nodes .now) _ (omega arith) (omega arith) ((c .before .before .before .before .before .before .before .before .copy) .ensures .1))
+put-block-requires c κs = omega (arith, part-read-length (16 * (c .before .before .before .before .before .before .before .before .before .before .before .before .before .before .before .before .before .before .before .before .before .before) .args .second .0) (16 * (c .before .before .before .before .before .before .before .before .before .before .before .before .before .before .before .before .before .before .before .before .before .before) .args .end .0) ((c .before .before .before .before .before .before .before .before .before .before .before .before .before .before .before .before .before .before .before .before .before .before) .args .nodes .now) _ (omega arith) (omega arith) ((c .before .before .before .before .before .before .before .before .before .before .before .before .before .before .copy) .ensures .1))
 
 same-length : tie.Need-same-length
 same-length c = search needs
@@ -62,26 +62,26 @@ same-length-2 c = search needs
 
 returns : tie.Need-returns
 returns c =
-    let a = (c .before .before .before .before .before .before .before .before .before .before .before .before .before .before .before .before .before) .args in
-    let from = 16 * a .b in
-    let to = 16 * a .c in
-    let read = part-read from to (a .nodes .now) _ (omega arith) (omega arith) ((c .before .before .before .before .before .before .before .before .before .before .before .copy) .ensures .1) in
-    end-moved (a .nodes .now) ((c .before .before .before .before .before .before .before .move-up) .last .0) ((c .before .before .put-block) .last .0) (take (to - from) ((c .before .before .before .before .before .before .before .before .before .before .before .copy) .last .1 .0)) (16 * a .a) from to (16 * (a .a + (a .c - a .b))) (16 * (a .b - a .a)) (to - from) (omega arith) refl (omega arith) read ((c .before .before .before .before .before .before .before .move-up) .ensures) ((c .before .before .put-block) .ensures)
+    let a = (c .before .before .before .before .before .before .before .before .before .before .before .before .before .before .before .before .before .before .before .before .before .before .before .before .before) .args in
+    let from = 16 * a .second .0 in
+    let to = 16 * a .end .0 in
+    let read = part-read from to (a .nodes .now) _ (omega arith) (omega arith) ((c .before .before .before .before .before .before .before .before .before .before .before .before .before .before .before .before .before .copy) .ensures .1) in
+    end-moved (a .nodes .now) ((c .before .before .before .before .before .before .before .before .move-up) .last .0) ((c .before .before .put-block) .last .0) (take (to - from) ((c .before .before .before .before .before .before .before .before .before .before .before .before .before .before .before .before .before .copy) .last .1 .0)) (16 * a .first .0) from to (16 * (a .first .0 + (a .end .0 - a .second .0))) (16 * (a .second .0 - a .first .0)) (to - from) (omega arith) refl (omega arith) read ((c .before .before .before .before .before .before .before .before .move-up) .ensures) ((c .before .before .put-block) .ensures)
 
 pub end-to-front-spec : {M : Type 1} → statement M
 end-to-front-spec =
     tie.close
     (tie.spec
     mul-start
-    mul-end
+    mul-stop
     sub-len
     sub-copy
     part-copy-start
     part-copy-end
     copy-requires
+    sub-put-block
+    add-put-block
     sub-move-up
-    add-move-up
-    sub-move-up-2
     move-up-requires
     mul-put-block
     slice-reshare-prefix-put-block

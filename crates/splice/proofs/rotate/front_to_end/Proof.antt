@@ -12,8 +12,8 @@ use Rattle.splice.proofs.rotate.front_to_end.Tie as tie
 mul-start : tie.Need-mul-start
 mul-start c = search needs
 
-mul-end : tie.Need-mul-end
-mul-end c = search needs
+mul-stop : tie.Need-mul-stop
+mul-stop c = search needs
 
 sub-len : tie.Need-sub-len
 sub-len c = search needs
@@ -46,10 +46,10 @@ slice-reshare-prefix-put-block : tie.Need-slice-reshare-prefix-put-block
 slice-reshare-prefix-put-block c = search needs
 
 slice-aggregate-put-block : tie.Need-slice-aggregate-put-block
-slice-aggregate-put-block c = sym (part-read-length (16 * (c .before .before .before .before .before .before .before .before .before .before .before .before .before .before) .args .a) (16 * (c .before .before .before .before .before .before .before .before .before .before .before .before .before .before) .args .b) ((c .before .before .before .before .before .before .before .before .before .before .before .before .before .before) .args .nodes .now) _ (omega arith) (omega arith) ((c .before .before .before .before .before .before .before .before .copy) .ensures .1))
+slice-aggregate-put-block c = sym (part-read-length (16 * (c .before .before .before .before .before .before .before .before .before .before .before .before .before .before .before .before .before .before .before) .args .first .0) (16 * (c .before .before .before .before .before .before .before .before .before .before .before .before .before .before .before .before .before .before .before) .args .second .0) ((c .before .before .before .before .before .before .before .before .before .before .before .before .before .before .before .before .before .before .before) .args .nodes .now) _ (omega arith) (omega arith) ((c .before .before .before .before .before .before .before .before .before .before .before .copy) .ensures .1))
 
 put-block-requires : tie.Need-put-block-requires
-put-block-requires c κs = omega (arith, part-read-length (16 * (c .before .before .before .before .before .before .before .before .before .before .before .before .before .before) .args .a) (16 * (c .before .before .before .before .before .before .before .before .before .before .before .before .before .before) .args .b) ((c .before .before .before .before .before .before .before .before .before .before .before .before .before .before) .args .nodes .now) _ (omega arith) (omega arith) ((c .before .before .before .before .before .before .before .before .copy) .ensures .1))
+put-block-requires c κs = omega (arith, part-read-length (16 * (c .before .before .before .before .before .before .before .before .before .before .before .before .before .before .before .before .before .before .before) .args .first .0) (16 * (c .before .before .before .before .before .before .before .before .before .before .before .before .before .before .before .before .before .before .before) .args .second .0) ((c .before .before .before .before .before .before .before .before .before .before .before .before .before .before .before .before .before .before .before) .args .nodes .now) _ (omega arith) (omega arith) ((c .before .before .before .before .before .before .before .before .before .before .before .copy) .ensures .1))
 
 same-length : tie.Need-same-length
 same-length c = search needs
@@ -59,18 +59,18 @@ same-length-2 c = search needs
 
 returns : tie.Need-returns
 returns c =
-    let a = (c .before .before .before .before .before .before .before .before .before .before .before .before .before .before .before .before .before) .args in
-    let from = 16 * a .a in
-    let to = 16 * a .b in
-    let read = part-read from to (a .nodes .now) _ (omega arith) (omega arith) ((c .before .before .before .before .before .before .before .before .before .before .before .copy) .ensures .1) in
-    front-moved (a .nodes .now) ((c .before .before .before .before .before .before .before .move-down) .last .0) ((c .before .before .put-block) .last .0) (take (to - from) ((c .before .before .before .before .before .before .before .before .before .before .before .copy) .last .1 .0)) from to (16 * a .c) (16 * a .c - (to - from)) (to - from) (16 * (a .c - a .b)) refl (omega arith) (omega arith) read ((c .before .before .before .before .before .before .before .move-down) .ensures) ((c .before .before .put-block) .ensures)
+    let a = (c .before .before .before .before .before .before .before .before .before .before .before .before .before .before .before .before .before .before .before .before .before .before) .args in
+    let from = 16 * a .first .0 in
+    let to = 16 * a .second .0 in
+    let read = part-read from to (a .nodes .now) _ (omega arith) (omega arith) ((c .before .before .before .before .before .before .before .before .before .before .before .before .before .before .copy) .ensures .1) in
+    front-moved (a .nodes .now) ((c .before .before .before .before .before .before .before .before .move-down) .last .0) ((c .before .before .put-block) .last .0) (take (to - from) ((c .before .before .before .before .before .before .before .before .before .before .before .before .before .before .copy) .last .1 .0)) from to (16 * a .end .0) (16 * a .end .0 - (to - from)) (to - from) (16 * (a .end .0 - a .second .0)) refl (omega arith) (omega arith) read ((c .before .before .before .before .before .before .before .before .move-down) .ensures) ((c .before .before .put-block) .ensures)
 
 pub front-to-end-spec : {M : Type 1} → statement M
 front-to-end-spec =
     tie.close
     (tie.spec
     mul-start
-    mul-end
+    mul-stop
     sub-len
     sub-copy
     part-copy-start

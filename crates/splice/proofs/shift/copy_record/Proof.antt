@@ -42,9 +42,9 @@ same-length c = search needs
 
 returns : tie.Need-returns
 returns c =
-    let a = (c .before .before .before .before .before .before .before .before .before .before .before) .args in
-    copied (16 * a .to) (16 * a .from) 16 ((c .before .before .before .before .before .before .copy) .last .1 .0) (omega arith) (omega arith)
-    (part-read-whole (16 * a .from) (16 * a .from + 16) (a .nodes .now) _ (omega arith) (omega arith) ((c .before .before .before .before .before .before .copy) .ensures .1) 16 refl (omega arith))
+    let a = (c .before .before .before .before .before .before .before .before .before .before .before .before .before) .args in
+    copied (16 * a .to .0) (16 * a .from .0) 16 ((c .before .before .before .before .before .before .before .copy) .last .1 .0) (omega arith) (omega arith)
+    (part-read-whole (16 * a .from .0) (16 * a .from .0 + 16) (a .nodes .now) _ (omega arith) (omega arith) ((c .before .before .before .before .before .before .before .copy) .ensures .1) 16 refl (omega arith))
     ((c .before .before .put-block) .ensures)
 
 pub copy-record-spec : {M : Type 1} → statement M

@@ -9,7 +9,7 @@ use Rattle.splice.proofs.shift.move_up.Statement.{statement}
 use Rattle.splice.proofs.shift.move_up.Tie as tie
 
 abbrev Inv-loop : tie.InvT-loop
-Inv-loop nodes₀ to from many i₀ nodes i = (i ≤ many) × (length nodes ≡ length nodes₀) × Copies nodes₀ nodes (16 * (to + i)) (16 * (from + i)) (16 * (many - i))
+Inv-loop nodes₀ to from many i₀ nodes i = (i ≤ many) × (length nodes ≡ length nodes₀) × Copies nodes₀ nodes (16 * (to .0 + i)) (16 * (from .0 + i)) (16 * (many - i))
 
 abbrev μ-loop : tie.MeasureT-loop
 μ-loop nodes₀ to from many i₀ nodes i = i
@@ -17,16 +17,16 @@ abbrev μ-loop : tie.MeasureT-loop
 loop-holds : tie.Need-loop-holds Inv-loop μ-loop
 loop-holds c =
     let a = (c .before) .args in
-    (omega arith, refl, copied-none (a .nodes .now) (16 * (a .to + a .many)) (16 * (a .from + a .many)) (16 * (a .many - a .many)) (omega arith))
+    (omega arith, refl, copied-none (a .nodes .now) (16 * (a .to .0 + a .many)) (16 * (a .from .0 + a .many)) (16 * (a .many - a .many)) (omega arith))
 
 sub-i : tie.Need-sub-i Inv-loop μ-loop
 sub-i c = omega arith
 
-add-copy-record : tie.Need-add-copy-record Inv-loop μ-loop
-add-copy-record c = omega arith
+add-t10 : tie.Need-add-t10 Inv-loop μ-loop
+add-t10 c = omega arith
 
-add-copy-record-2 : tie.Need-add-copy-record-2 Inv-loop μ-loop
-add-copy-record-2 c = omega arith
+add-t12 : tie.Need-add-t12 Inv-loop μ-loop
+add-t12 c = omega arith
 
 copy-record-requires : tie.Need-copy-record-requires Inv-loop μ-loop
 copy-record-requires c κs = omega arith
@@ -36,11 +36,11 @@ loop-less c = omega arith
 
 loop-again : tie.Need-loop-again Inv-loop μ-loop
 loop-again c =
-    let a = (c .before .before .before .before .before .before .before) .args in
-    let i = (c .before .before .before .before .before .loop) .i - 1 in (
+    let a = (c .before .before .before .before .before .before .before .before .before) .args in
+    let i = (c .before .before .before .before .before .before .before .loop) .i - 1 in (
       omega arith,
-      (c .before .before .copy-record) .kept .0 ∙ (c .before .before .before .before .before .loop) .inv .1,
-      copied-up (a .nodes .now) ((c .before .before .before .before .before .loop) .nodes) (16 * (a .to + i)) (16 * (a .from + i)) (16 * (a .many - (c .before .before .before .before .before .loop) .i)) 16 (16 * (a .to + (c .before .before .before .before .before .loop) .i)) (16 * (a .from + (c .before .before .before .before .before .loop) .i)) (16 * (a .many - i)) (omega arith) (omega arith) (omega arith) (omega arith) (omega arith) ((c .before .before .before .before .before .loop) .inv .2) ((c .before .before .copy-record) .ensures),
+      (c .before .before .copy-record) .kept .0 ∙ (c .before .before .before .before .before .before .before .loop) .inv .1,
+      copied-up (a .nodes .now) ((c .before .before .before .before .before .before .before .loop) .nodes) (16 * (a .to .0 + i)) (16 * (a .from .0 + i)) (16 * (a .many - (c .before .before .before .before .before .before .before .loop) .i)) 16 (16 * (a .to .0 + (c .before .before .before .before .before .before .before .loop) .i)) (16 * (a .from .0 + (c .before .before .before .before .before .before .before .loop) .i)) (16 * (a .many - i)) (omega arith) (omega arith) (omega arith) (omega arith) (omega arith) ((c .before .before .before .before .before .before .before .loop) .inv .2) ((c .before .before .copy-record) .ensures),
     )
 
 same-length : tie.Need-same-length Inv-loop μ-loop
@@ -49,7 +49,7 @@ same-length c = (c .before .loop) .inv .1
 returns : tie.Need-returns Inv-loop μ-loop
 returns c =
     let a = (c .before .before .before) .args in
-    recounted (a .nodes .now) ((c .before .loop) .nodes) (16 * (a .to + (c .before .loop) .i)) (16 * (a .from + (c .before .loop) .i)) (16 * (a .many - (c .before .loop) .i)) (16 * a .to) (16 * a .from) (16 * a .many) (omega arith) (omega arith) (omega arith) ((c .before .loop) .inv .2)
+    recounted (a .nodes .now) ((c .before .loop) .nodes) (16 * (a .to .0 + (c .before .loop) .i)) (16 * (a .from .0 + (c .before .loop) .i)) (16 * (a .many - (c .before .loop) .i)) (16 * a .to .0) (16 * a .from .0) (16 * a .many) (omega arith) (omega arith) (omega arith) ((c .before .loop) .inv .2)
 
 pub move-up-spec : {M : Type 1} → statement M
 move-up-spec =
@@ -59,8 +59,8 @@ move-up-spec =
     μ-loop
     loop-holds
     sub-i
-    add-copy-record
-    add-copy-record-2
+    add-t10
+    add-t12
     copy-record-requires
     loop-less
     loop-again

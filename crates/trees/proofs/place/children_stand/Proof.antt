@@ -1,32 +1,46 @@
 -- `trees::place::children_stand` meets its contract. Assumes nothing.
 use Prim.Native.Nat.{_-_}
 use native.Mathlib.Omega.{arith}
-use native.Mathlib.Nat.{one-mul}
-use Rattle.records.proofs.Series.{Passed, passed-none, passed-more, passed-all}
-use Rattle.trees.specs.Stack.{entryAt, childStands}
+use Rattle.records.proofs.Series.{passed-all}
+use Rattle.trees.proofs.Standings.{Passing, first-passed, first-failed, later-passed, later-failed}
 use Rattle.trees.proofs.place.children_stand.Statement.{statement}
 use Rattle.trees.proofs.place.children_stand.Tie as tie
 
 abbrev Inv-loop : tie.InvT-loop
-Inv-loop stack top count parent flags good₀ i₀ good i = Passed (childStands parent flags) (entryAt stack) 1 count top good i
+Inv-loop stack top count first later i₀ i = Passing stack top count first later i
 
 abbrev μ-loop : tie.MeasureT-loop
-μ-loop stack top count parent flags good₀ i₀ good i = count - i
+μ-loop stack top count first later i₀ i = count - i
+
+mul-has-bit : tie.Need-mul-has-bit Inv-loop μ-loop
+mul-has-bit c = omega arith
+
+shared-slice-read-has-bit : tie.Need-shared-slice-read-has-bit Inv-loop μ-loop
+shared-slice-read-has-bit c = omega arith
+
+has-bit-requires : tie.Need-has-bit-requires Inv-loop μ-loop
+has-bit-requires c κs = (c .before .before) .pre .1 .1 _ (omega arith)
+
+returns : tie.Need-returns Inv-loop μ-loop
+returns c = first-failed _ _ _ _ _ _ ((c .before .before .before .before) .pre .0) ((c .before .has-bit) .ensures) ((c .if1) .taken)
 
 loop-holds : tie.Need-loop-holds Inv-loop μ-loop
-loop-holds c = passed-none
+loop-holds c = first-passed _ _ _ _ _ _ ((c .before .before .before .before) .pre .0) ((c .before .has-bit) .ensures) ((c .if1) .left)
 
-add-child-stands : tie.Need-add-child-stands Inv-loop μ-loop
-add-child-stands c = omega arith
+add-has-bit : tie.Need-add-has-bit Inv-loop μ-loop
+add-has-bit c = omega arith
 
-mul-child-stands : tie.Need-mul-child-stands Inv-loop μ-loop
-mul-child-stands c = omega arith
+mul-has-bit-2 : tie.Need-mul-has-bit-2 Inv-loop μ-loop
+mul-has-bit-2 c = omega arith
 
-shared-slice-read-child-stands : tie.Need-shared-slice-read-child-stands Inv-loop μ-loop
-shared-slice-read-child-stands c = omega arith
+shared-slice-read-has-bit-2 : tie.Need-shared-slice-read-has-bit-2 Inv-loop μ-loop
+shared-slice-read-has-bit-2 c = omega arith
 
-child-stands-requires : tie.Need-child-stands-requires Inv-loop μ-loop
-child-stands-requires c κs = tt
+has-bit-requires-2 : tie.Need-has-bit-requires-2 Inv-loop μ-loop
+has-bit-requires-2 c κs = (c .before .before .before .before .before .before .before) .pre .1 .1 _ (omega arith)
+
+returns-2 : tie.Need-returns-2 Inv-loop μ-loop
+returns-2 c = later-failed _ _ _ _ _ _ _ ((c .before .before .before .before .loop) .inv) ((c .before .before .before .loop-test) .taken) ((c .before .has-bit2) .ensures) ((c .if2) .taken)
 
 add-i : tie.Need-add-i Inv-loop μ-loop
 add-i c = omega arith
@@ -35,11 +49,10 @@ loop-less : tie.Need-loop-less Inv-loop μ-loop
 loop-less c = omega arith
 
 loop-again : tie.Need-loop-again Inv-loop μ-loop
-unfolding entryAt
-loop-again c = passed-more _ ((c .child-stands) .result) ((c .before .before .before .loop) .inv) ((c .before .before .loop-test) .taken) (rw one-mul) ((c .child-stands) .ensures)
+loop-again c = later-passed _ _ _ _ _ _ _ ((c .before .before .before .before .loop) .inv) ((c .before .before .before .loop-test) .taken) ((c .before .has-bit2) .ensures) ((c .if2) .left)
 
-returns : tie.Need-returns Inv-loop μ-loop
-returns c = passed-all ((c .before .loop) .inv) (c .loop-test .left)
+returns-3 : tie.Need-returns-3 Inv-loop μ-loop
+returns-3 c = passed-all ((c .before .loop) .inv .passed) ((c .loop-test) .left)
 
 pub children-stand-spec : {M : Type 1} → statement M
 children-stand-spec =
@@ -47,12 +60,17 @@ children-stand-spec =
     (tie.spec
     Inv-loop
     μ-loop
+    mul-has-bit
+    shared-slice-read-has-bit
+    has-bit-requires
+    returns
     loop-holds
-    add-child-stands
-    mul-child-stands
-    shared-slice-read-child-stands
-    child-stands-requires
+    add-has-bit
+    mul-has-bit-2
+    shared-slice-read-has-bit-2
+    has-bit-requires-2
+    returns-2
     add-i
     loop-less
     loop-again
-    returns)
+    returns-3)

@@ -1,66 +1,81 @@
 -- `trees::tree::node_stands` meets its contract. Assumes nothing.
-use mathlib.Core.Path.{_∙_}
+use mathlib.Core.Path.{ap, _∙_}
+use mathlib.Core.Logic.{⊎-elim}
 use native.Mathlib.Omega.{arith}
-use lib.ListN.{length-drop}
-use Rattle.trees.specs.Stack.{childrenStand, nodeEntry}
-use Rattle.trees.proofs.Stacks.{taken-part}
+use lib.ListN.{length}
+use Rattle.trees.specs.Standing.{standing}
+use Rattle.trees.proofs.Standings.{stands-leaf, stands-short, stands-plain, stands-name, no-short, no-property}
 use borrow.Author.Needs.{needs}
 use Rattle.trees.proofs.tree.node_stands.Statement.{statement}
 use Rattle.trees.proofs.tree.node_stands.Tie as tie
 
-sub-trees : tie.Need-sub-trees
-sub-trees c = search needs
-
 size-requires : tie.Need-size-requires
 size-requires c κs = search needs
 
-least-requires : tie.Need-least-requires
-least-requires c κs = search needs
+returns : tie.Need-returns
+returns c = stands-leaf ((c .before .before .before .before) .args .n) ((c .before .before .before .before) .args .stack .now) ((c .before .before .before .before) .args .top) _ ((c .before .size) .ensures .0) ((c .if1) .taken)
+
+sub-if2 : tie.Need-sub-if2
+sub-if2 c = search needs
+
+returns-2 : tie.Need-returns-2
+returns-2 c = stands-short ((c .before .before .before .before .before) .args .n) ((c .before .before .before .before .before) .args .stack .now) ((c .before .before .before .before .before) .args .top) _ ((c .before .before .size) .ensures .0) ((c .if2) .taken)
 
 children-stand-requires : tie.Need-children-stand-requires
-children-stand-requires c κs = search needs
+children-stand-requires c κs = (omega (arith, (c .before .before .before .before .before .if1) .left), (omega arith, (c .before .before .before .before .before .before .before .before .before) .pre .1 .1 .0))
+
+returns-3 : tie.Need-returns-3
+returns-3 c = stands-name ((c .before .before .before .before .before .before .before .before .before .before) .args .n) ((c .before .before .before .before .before .before .before .before .before .before) .args .stack .now) ((c .before .before .before .before .before .before .before .before .before .before) .args .top) _ ((c .before .before .before .before .before .before .before .size) .ensures .0) ((c .before .before .before .before .before .if2) .left) ((c .before .before .before .before .before .before .before .before .before .before) .pre .1 .1 .0) _ ((c .before .before .before .if3) .taken) ((c .before .if4) .taken) ((c .children-stand) .ensures) ((c .before .before .before .before .before .before .before .before .before .before) .pre .1 .0)
 
 wide-requires : tie.Need-wide-requires
 wide-requires c κs = search needs
 
-is-link-requires : tie.Need-is-link-requires
-is-link-requires c κs = search needs
+size-requires-2 : tie.Need-size-requires-2
+size-requires-2 c κs = search needs
 
-first-is-loose-requires : tie.Need-first-is-loose-requires
-first-is-loose-requires c κs = search needs
+mul-row : tie.Need-mul-row
+mul-row c = search needs
 
-entry-requires : tie.Need-entry-requires
-entry-requires c κs = search needs
+mul-children-stand : tie.Need-mul-children-stand
+mul-children-stand c = search needs
 
-add-t11 : tie.Need-add-t11
-add-t11 c = search needs
+shared-slice-read-children-stand : tie.Need-shared-slice-read-children-stand
+unfolding standing
+shared-slice-read-children-stand c = omega (arith, ap length ((c .before .before .before .before .before .before .before .before .before .before) .pre .1 .1 .1))
 
-sub-t18 : tie.Need-sub-t18
-sub-t18 c = search needs
+add-children-stand : tie.Need-add-children-stand
+add-children-stand c = search needs
 
-returns : tie.Need-returns
-unfolding childrenStand nodeEntry
-returns c =
-    let part = taken-part ((c .before .before .before .before .before .before .before .before .before) .args .stack .now) ((c .before .before .before .before .before .before .before .before .before) .args .n .children) ((c .before .before .before .before .before .before .before .before .before) .args .top) ((c .before .before .before .before .before .before .least) .result) (omega arith) (omega arith) in (
-      rw ((c .before .before .before .before .before .children-stand) .ensures, part, length-drop ((c .before .before .before .before .before .before .before .before .before) .args .top) ((c .before .before .before .before .before .before .before .before .before) .args .stack .now), (c .before .before .before .before .before .before .before .size) .ensures .0),
-      (
-        (c .entry) .ensures ∙ rw ((c .before .before .is-link) .ensures, (c .before .before .before .wide) .ensures .0, (c .before .first-is-loose) .ensures, part),
-        omega arith,
-      ),
-    )
+mul-children-stand-2 : tie.Need-mul-children-stand-2
+mul-children-stand-2 c = search needs
+
+shared-slice-read-children-stand-2 : tie.Need-shared-slice-read-children-stand-2
+unfolding standing
+shared-slice-read-children-stand-2 c = omega (arith, ap length ((c .before .before .before .before .before .before .before .before .before .before .before) .pre .1 .1 .1))
+
+children-stand-requires-2 : tie.Need-children-stand-requires-2
+children-stand-requires-2 c κs = (omega (arith, (c .before .before .before .before .before .before .before .if1) .left), (omega arith, (c .before .before .before .before .before .before .before .before .before .before .before) .pre .1 .1 .0))
+
+returns-4 : tie.Need-returns-4
+returns-4 c = stands-plain ((c .before .before .before .before .before .before .before .before .before .before .before .before) .args .n) ((c .before .before .before .before .before .before .before .before .before .before .before .before) .args .stack .now) ((c .before .before .before .before .before .before .before .before .before .before .before .before) .args .top) _ ((c .before .before .before .before .before .before .before .before .before .size) .ensures .0) ((c .before .before .before .before .before .before .before .if2) .left) ((c .before .before .before .before .before .before .before .before .before .before .before .before) .pre .1 .1 .0) _ _ ((c .before .before .before .size2) .result) ((c .before .before .before .before .before .before .before .before .before .before .before .before) .pre .1 .1 .1) ((c .before .before .before .before .before .before .before .before .before .before .before .before) .pre .0) ((c .before .before .before .size2) .ensures .0 ∙ (c .before .before .before .before .wide) .ensures .0) (⊎-elim (λ x. no-short ((c .before .before .before .before .before .before .before .before .before .before .before .before) .args .n .kind) ((c .before .before .before .before .before .before .before .before .before .before .before .before) .args .n .flags) (x .2 .left)) (λ y. no-property ((c .before .before .before .before .before .before .before .before .before .before .before .before) .args .n .kind) ((c .before .before .before .before .before .before .before .before .before .before .before .before) .args .n .flags) (y .left)) ((c .before .before .before .before .before .if3) .came)) ((c .children-stand2) .ensures) ((c .before .before .before .before .before .before .before .before .before .before .before .before) .pre .1 .0)
 
 pub node-stands-spec : {M : Type 1} → statement M
 node-stands-spec =
     tie.close
     (tie.spec
-    sub-trees
     size-requires
-    least-requires
+    returns
+    sub-if2
+    returns-2
     children-stand-requires
+    returns-3
     wide-requires
-    is-link-requires
-    first-is-loose-requires
-    entry-requires
-    add-t11
-    sub-t18
-    returns)
+    size-requires-2
+    mul-row
+    mul-children-stand
+    shared-slice-read-children-stand
+    add-children-stand
+    mul-children-stand-2
+    shared-slice-read-children-stand-2
+    children-stand-requires-2
+    returns-4)

@@ -19,7 +19,7 @@ slice-read-uses c = search needs
 
 add-uses : tie.Need-add-uses
 add-uses c =
-    let same : getD ((c .before .before .before .before) .args .uses .now) ((c .before .before .size) .result) 0 ≡ getD ((c .before .before .before .before) .args .uses .now) ((c .before .before .before .before) .args .name) 0 = ap (λ (k : ℕ). getD ((c .before .before .before .before) .args .uses .now) k 0) (((c .before .before .size) .ensures) .0) in
+    let same : getD ((c .before .before .before .before) .args .uses .now) ((c .before .before .size) .result) 0 ≡ getD ((c .before .before .before .before) .args .uses .now) ((c .before .before .before .before) .args .name .0) 0 = ap (λ (k : ℕ). getD ((c .before .before .before .before) .args .uses .now) k 0) (((c .before .before .size) .ensures) .0) in
     omega (arith, same, (c .before .before .before .before) .pre)
 
 slice-write-uses : tie.Need-slice-write-uses

@@ -1,0 +1,29 @@
+// The names that folds took, in the order of the folds.
+ghost use Prim.Native.Nat.{_+_, _-_, _*_, _≤_};
+ghost use lib.ListN.{length};
+ghost use Rattle.splice.specs.Blocks.{Overwrites};
+ghost use Rattle.search.specs.Kept.{namesFrom};
+use records::layout::declarator_at;
+
+// Lists the declarators that a search has folded behind those of the folds before it: number `left` to `many`, the last first.
+pub(crate) fn list_folded(
+    declarators: &[u8],
+    left: usize,
+    many: usize,
+    folded: &mut [u16],
+    folds: usize,
+)
+    requires { ⌜ left ≤ many ⌝ }
+    requires { ⌜ 4 * many ≤ length (now declarators) ⌝ }
+    requires { ⌜ folds + (many - left) ≤ length (now folded) ⌝ }
+    ensures { λ _. ⌜ Overwrites (now (folded .entry)) (now (folded .exit)) folds (namesFrom (now (declarators .entry)) left (many - left)) ⌝ }
+{
+    let mut last = many;
+    let mut next = folds;
+    while left < last {
+        last -= 1;
+        let d = declarator_at(declarators, 4 * last);
+        folded[next] = d.name;
+        next += 1;
+    }
+}

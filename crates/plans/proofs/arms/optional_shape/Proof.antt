@@ -1,0 +1,13 @@
+-- `plans::arms::optional_shape` meets its contract. Assumes nothing.
+use mathlib.Core.Path.{refl}
+use Rattle.plans.proofs.arms.optional_shape.Statement.{statement}
+use Rattle.plans.proofs.arms.optional_shape.Tie as tie
+
+returns : tie.Need-returns
+returns c = rw ((c .if1) .taken) refl
+
+returns-2 : tie.Need-returns-2
+returns-2 c = rw ((c .if1) .left) refl
+
+pub optional-shape-spec : {M : Type 1} → statement M
+optional-shape-spec = tie.close (tie.spec returns returns-2)

@@ -1,2 +1,0 @@
--- The rows of the tables.
-pub mod Rows
