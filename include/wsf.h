@@ -28,20 +28,23 @@ extern "C" {
  */
 #define WSF_MOST_ROOM 42248
 
-/* The returned number: the first row that applies, in this order. */
+/*
+ * The returned number: the first row of the refusal table that applies, in this order. The table is
+ * in docs/EMBEDDING.md, "Refusals".
+ */
 enum {
-    WSF_FOLDED = 0,         /* the file is accepted, and folded where it can be */
-    WSF_NO_RECORD_FILE = 1, /* under 24 bytes, or doesn't begin with WSF */
-    WSF_VERSION = 2,        /* the version isn't 1 */
-    WSF_HEADER = 3,         /* a count outside its limits, an unknown option, a bad scope, last u16 not 0 */
-    WSF_LENGTH = 4,         /* the length isn't what the counts say */
-    WSF_FACTS = 5,          /* a bad name fact, scope or frame */
-    WSF_STATEMENTS = 6,     /* a bad declarator or statement, an unresolved declared name, a bad sum */
-    WSF_NODE = 7,           /* a node that is bad by itself */
-    WSF_TREES = 8,          /* trees that don't close, or a child where its kind can't stand */
-    WSF_DECLARED_TWICE = 9, /* a name declared twice */
-    WSF_USES = 10,          /* more reads or targets of a name than its facts say */
-    WSF_ROOM = 11           /* the output is too short; the file itself is good */
+    WSF_FOLDED = 0, /* the file is accepted, and folded where it can be */
+    WSF_NO_RECORD_FILE = 1,
+    WSF_VERSION = 2,
+    WSF_HEADER = 3,
+    WSF_LENGTH = 4,
+    WSF_FACTS = 5,
+    WSF_STATEMENTS = 6,
+    WSF_NODE = 7,
+    WSF_TREES = 8,
+    WSF_DECLARED_TWICE = 9,
+    WSF_USES = 10,
+    WSF_ROOM = 11 /* the output is too short; the file itself is good */
 };
 
 typedef struct {
@@ -63,11 +66,7 @@ typedef struct {
  * Threads: no global or static state, no allocation, no system call; any number of threads may fold
  * at the same time. Of the C library it asks for memcpy and memset.
  *
- * Stack: 16 KB for a small script and 80 KB for one of a few hundred nodes; where they are refused, 10
- * and 72 KB. The search recurses for each level of a tree: the deepest trees that a file can hold (3,000
- * nodes) take 0.95 MB at the most that was seen. 2 MB below the call are enough. The size is measured,
- * not proved; the compiled code was seen to touch each page of a frame in turn, so that a stack which is
- * too small ends in the guard page.
+ * Stack: 2 MB below the call are enough. The size is measured, not proved (docs/EMBEDDING.md).
  */
 WsfAnswer wsf_fold(const uint8_t *file, size_t file_length, uint8_t *output, size_t output_length);
 

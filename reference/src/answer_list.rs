@@ -40,9 +40,9 @@ pub struct List {
 /// The kept lists: the answers of the fold, and the whole tables of refusals and limits.
 pub fn lists() -> [List; 2] {
     [
-        List { paths: &["answers/answers.bin", "../crates/folds/stdin"], cases: answer_cases() },
+        List { paths: &["answers/answers.bin", "../crates/replay_folds/stdin"], cases: answer_cases() },
         List {
-            paths: &["../crates/refusals/stdin"],
+            paths: &["../crates/replay_refusals/stdin"],
             cases: refusals().into_iter().chain(limits()).collect(),
         },
     ]

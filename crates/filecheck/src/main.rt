@@ -1,7 +1,7 @@
 // Reads a record file from standard input and prints `accepted`, or `refused` with the number of the row that refuses it.
 use libc::STDOUT_FILENO;
-use refusal::answer::number_of;
-use refusal::check::refusal;
+use records_refusal::check::refusal;
+use records_refusal::outcome::number_of;
 
 // More than any accepted file wants.
 const ROOM: usize = 65536;

@@ -2,18 +2,18 @@
 // then a line for each statement of the result. Of a file that is refused, the number of the row that refuses it.
 mod list;
 
-use fold::Folded;
-use fold::fold;
 use list::print_result;
+use statements_fold::FoldAnswer;
+use statements_fold::fold;
 
 fn report(file: &[u8], output: &mut [u8]) {
-    let answer = fold(file, output);
-    match answer {
-        Folded::Refused(number) => {
-            lines::put(b"refused ", number as usize);
-            lines::end(b"");
+    let outcome = fold(file, output);
+    match outcome {
+        FoldAnswer::Refused(number) => {
+            program_lines::put(b"refused ", number as usize);
+            program_lines::end(b"");
         }
-        Folded::Written(_, folds) => print_result(output, folds),
+        FoldAnswer::Written(_, folds) => print_result(output, folds),
     }
 }
 

@@ -9,7 +9,7 @@ use borrow.Author.Tests.{eq-eqb, ne-eqb, eqb-true, le-leb, lt-leb, lt-ltb, le-lt
 use Rattle.records.specs.Limits.{noPosition}
 use Rattle.records.specs.Flags.{marked, unresolved, optional, anonymous, compound, shorthand, computed, proto}
 use Rattle.records.specs.Sets.{isIn}
-use Rattle.records.specs.Node.{fewest, most, isLink, isNamed, twoChildren, goodChildren, goodFlags, mayMark, goodNodeOf}
+use Rattle.records.specs.Node.{fewest, most, isChainElement, isNamed, twoChildren, goodChildren, goodFlags, mayMark, goodNodeOf}
 use Rattle.records.specs.declared.layout.NodeRecord.{NodeRecord}
 use Rattle.records.proofs.Tests.{both, all-three, and-left, and-right}
 use Rattle.records.proofs.Sets.{allBelow, below, same, same-true, follows}
@@ -108,9 +108,9 @@ parent-unnamed n h some =
 
 -- the flags by the tests of the code
 abbrev pub flagsTest : ℕ → ℕ → ℕ → ℕ → Bool
-flagsTest markables links kind flags =
+flagsTest markables elements kind flags =
     cond (eqb flags 1) (isIn markables kind)
-    (cond (ltb flags 4) (isIn links kind)
+    (cond (ltb flags 4) (isIn elements kind)
     (cond (eqb kind 26) (eqb flags 16 || eqb flags 32 || eqb flags 64 || eqb flags 80 || eqb flags 96)
     (cond (eqb kind 20) (eqb flags 8 || eqb flags 9)
     (eqb flags 4 && (eqb kind 2 || eqb kind 3) || eqb flags 5 && eqb kind 3))))
@@ -203,7 +203,7 @@ module _ (names f : ℕ) (n : NodeRecord) (good : goodNodeOf names f n ≡ true)
   good-compound e =
       eqb-true (n .kind) 20
       (follows (compound (n .flags)) (eqb (n .kind) 20)
-      (fourth-of (ltb (n .flags) 128) (not (optional (n .flags)) || isLink (n .kind)) (not (anonymous (n .flags)) || eqb (n .kind) 2 || eqb (n .kind) 3)
+      (fourth-of (ltb (n .flags) 128) (not (optional (n .flags)) || isChainElement (n .kind)) (not (anonymous (n .flags)) || eqb (n .kind) 2 || eqb (n .kind) 3)
       (not (compound (n .flags)) || eqb (n .kind) 20) (not (shorthand (n .flags)) || eqb (n .kind) 26) (not (computed (n .flags)) || eqb (n .kind) 26)
       (not (proto (n .flags)) || eqb (n .kind) 26) (not (shorthand (n .flags)) || not (computed (n .flags))) (parts .1))
       e)

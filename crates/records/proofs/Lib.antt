@@ -5,3 +5,4 @@ pub mod Series
 pub mod Behind
 pub mod Names
 pub mod Judged
+pub mod Putting

@@ -52,4 +52,4 @@ goodCounts n reads targets =
 -- 10: "a recorded name has more kind 4 nodes and compound targets than reads, or more targets than writes; a resolved
 -- one without record is a target with bit 6 clear"
 unfoldable pub badCounts : List NameFacts → Trees → Bool
-badCounts names row = not (everyFrom (λ name n. goodCounts n (readsOf name row) (targetsOf name row)) 0 names)
+badCounts names forest = not (everyFrom (λ name n. goodCounts n (readsOf name forest) (targetsOf name forest)) 0 names)

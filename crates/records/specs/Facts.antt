@@ -11,6 +11,10 @@ use Rattle.records.specs.declared.layout.NameFacts.{NameFacts}
 use Rattle.records.specs.declared.layout.Scope.{Scope}
 use Rattle.records.specs.declared.layout.Frame.{Frame}
 
+-- no scope: what stands past the last one, with no parent and not a function's
+abbrev pub noScope : Scope
+noScope = record { parent = noNumber; flags = 0 }
+
 abbrev pub noCounts : NameFacts → Bool
 noCounts n = eqb (n .reads) 0 && eqb (n .writes) 0
 

@@ -2,12 +2,13 @@
 use Prim.Native.Nat.{ℕ, _+_, _*_}
 use mathlib.Core.Bool.{Bool, cond}
 use mathlib.Core.List.{List, [], _∷_, _++_}
+use mathlib.Core.Path.{_≡_}
 use lib.ListN.{length, take, drop}
 use lib.Dec.{eqb}
 use Rattle.records.specs.Limits.{headerLength, nameLength, scopeLength, frameLength, nodeLength, declaratorLength, statementLength}
 use Rattle.records.specs.Records.{recordsFrom, bytesOf}
 use Rattle.records.specs.Record.{headerOf, headerBytes, nameAt, nameBytes, scopeAt, scopeBytes, frameAt, frameBytes, nodeAt, nodeBytes, declaratorAt, declaratorBytes, statementAt, statementBytes}
-use Rattle.records.specs.Tree.{Tree, Trees, node, none, more, sizes, others, preorders, rowOf}
+use Rattle.records.specs.Tree.{Tree, Trees, node, none, more, sizes, others, preorders, forestOf}
 use Rattle.records.specs.declared.layout.Header.{Header}
 use Rattle.records.specs.declared.layout.NameFacts.{NameFacts}
 use Rattle.records.specs.declared.layout.Scope.{Scope}
@@ -37,6 +38,32 @@ statementsStart h = declaratorsStart h + declaratorLength * h .declarators
 
 abbrev pub fileLength : Header → ℕ
 fileLength h = statementsStart h + statementLength * h .statements
+
+-- Bytes that are as long as their header says; and this header is theirs.
+abbrev pub IsWhole : List ℕ → Type 0
+IsWhole bs = length bs ≡ fileLength (headerOf bs)
+
+abbrev pub IsHeaderOf : Header → List ℕ → Type 0
+IsHeaderOf h bs = (h ≡ headerOf bs) × (length bs ≡ fileLength h)
+
+-- So many records of some bytes, the first of which begins at `from`.
+abbrev pub factsFrom : List ℕ → ℕ → ℕ → List NameFacts
+factsFrom bs from count = recordsFrom (nameAt bs) nameLength count from
+
+abbrev pub scopesFrom : List ℕ → ℕ → ℕ → List Scope
+scopesFrom bs from count = recordsFrom (scopeAt bs) scopeLength count from
+
+abbrev pub framesFrom : List ℕ → ℕ → ℕ → List Frame
+framesFrom bs from count = recordsFrom (frameAt bs) frameLength count from
+
+abbrev pub nodesFrom : List ℕ → ℕ → ℕ → List NodeRecord
+nodesFrom bs from count = recordsFrom (nodeAt bs) nodeLength count from
+
+abbrev pub declaratorsFrom : List ℕ → ℕ → ℕ → List DeclaratorRecord
+declaratorsFrom bs from count = recordsFrom (declaratorAt bs) declaratorLength count from
+
+abbrev pub statementsFrom : List ℕ → ℕ → ℕ → List StatementRecord
+statementsFrom bs from count = recordsFrom (statementAt bs) statementLength count from
 
 -- The records of each part of some bytes.
 unfoldable pub namesOf : List ℕ → List NameFacts
@@ -89,7 +116,7 @@ pub record File : Type 0 where
 abbrev pub one : Bool → ℕ
 one b = cond b 1 0
 
--- the first tree of a row; the empty row has none, and what stands here then is never used
+-- the first tree of a forest; an empty one has none, and what stands here then is never used
 unfoldable pub firstTree : Trees → Tree
 firstTree none = node (record { kind = 0; flags = 0; label = 0; position = 0 }) none
 firstTree (more t ts) = t
@@ -99,21 +126,21 @@ unfoldable pub initializers : List DeclaratorRecord → ℕ
 initializers [] = 0
 initializers (d ∷ ds) = one (eqb (d .present) 1) + initializers ds
 
--- the declarators, with their initializers from a row of trees
+-- the declarators, with their initializers from a forest
 unfoldable pub readDeclarators : List DeclaratorRecord → Trees → List Declarator
-readDeclarators [] row = []
-readDeclarators (d ∷ ds) row =
-    record { name = d .name; initializer = cond (eqb (d .present) 1) (given (firstTree row)) bare }
-    ∷ readDeclarators ds (others (one (eqb (d .present) 1)) row)
+readDeclarators [] forest = []
+readDeclarators (d ∷ ds) forest =
+    record { name = d .name; initializer = cond (eqb (d .present) 1) (given (firstTree forest)) bare }
+    ∷ readDeclarators ds (others (one (eqb (d .present) 1)) forest)
 
 unfoldable pub declarationKind : ℕ → DeclarationKind
 declarationKind k = cond (eqb k 0) Var (cond (eqb k 1) Let (cond (eqb k 2) Const (cond (eqb k 3) Using AwaitUsing)))
 
 -- a statement, with its declarators and its trees in front
 unfoldable pub readStatement : StatementRecord → List DeclaratorRecord → Trees → Statement
-readStatement s ds row =
-    cond (eqb (s .kind) 5) (expression (firstTree row))
-    (cond (eqb (s .kind) 6) other (declaration (declarationKind (s .kind)) (readDeclarators (take (s .declarators) ds) row)))
+readStatement s ds forest =
+    cond (eqb (s .kind) 5) (expression (firstTree forest))
+    (cond (eqb (s .kind) 6) other (declaration (declarationKind (s .kind)) (readDeclarators (take (s .declarators) ds) forest)))
 
 -- how many trees a statement has
 unfoldable pub treesOf : StatementRecord → List DeclaratorRecord → ℕ
@@ -121,9 +148,9 @@ treesOf s ds = one (eqb (s .kind) 5) + initializers (take (s .declarators) ds)
 
 -- "each statement's initializers or expression, in order"
 unfoldable pub readStatements : List StatementRecord → List DeclaratorRecord → Trees → List Statement
-readStatements [] ds row = []
-readStatements (s ∷ ss) ds row =
-    readStatement s ds row ∷ readStatements ss (drop (s .declarators) ds) (others (treesOf s ds) row)
+readStatements [] ds forest = []
+readStatements (s ∷ ss) ds forest =
+    readStatement s ds forest ∷ readStatements ss (drop (s .declarators) ds) (others (treesOf s ds) forest)
 
 unfoldable pub read : List ℕ → File
 read bs = record {
@@ -133,7 +160,7 @@ read bs = record {
   names = namesOf bs;
   scopes = scopesOf bs;
   frames = framesOf bs;
-  statements = readStatements (statementsOf bs) (declaratorsOf bs) (rowOf (nodesOf bs));
+  statements = readStatements (statementsOf bs) (declaratorsOf bs) (forestOf (nodesOf bs));
 }
 
 -- The records of statements.

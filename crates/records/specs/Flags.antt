@@ -7,8 +7,8 @@ use lib.Dec.{eqb}
 abbrev pub bit : ℕ → ℕ → Bool
 bit w flags = eqb (flags / w % 2) 1
 
--- Name facts: 4 value record present, 6 mutated, 7 unresolved, 8 the name `eval`. (0 block scoped, 1 import, 2 catch,
--- 3 var and 5 implicitly observable are read by the walk alone.)
+-- Name facts: 4 value record present, 6 mutated, 7 unresolved, 8 the name `eval`. The refusal table reads no other; 0 block
+-- scoped and 1 import are in `walk_rules`, 2 catch and 5 implicitly observable in `statements_rules`, 3 var in `theory_runs`.
 abbrev pub recorded : ℕ → Bool
 recorded flags = bit 16 flags
 

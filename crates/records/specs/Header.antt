@@ -9,8 +9,8 @@ use Rattle.records.specs.File.{fileLength}
 use Rattle.records.specs.declared.layout.Header.{Header}
 
 -- 1: "under 24 bytes, or not `WSF`"
-unfoldable pub notAScript : List ℕ → Bool
-notAScript bs = ltb (length bs) headerLength || not (eqb (getD bs 0 0) 87 && eqb (getD bs 1 0) 83 && eqb (getD bs 2 0) 70)
+unfoldable pub notARecordFile : List ℕ → Bool
+notARecordFile bs = ltb (length bs) headerLength || not (eqb (getD bs 0 0) 87 && eqb (getD bs 1 0) 83 && eqb (getD bs 2 0) 70)
 
 -- 2: "version not 1"
 unfoldable pub otherVersion : Header → Bool

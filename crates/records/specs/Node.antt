@@ -12,21 +12,84 @@ use Rattle.records.specs.declared.layout.NameFacts.{NameFacts}
 use Rattle.records.specs.declared.layout.NodeRecord.{NodeRecord}
 
 -- kinds 10, 11, 12 and 14: a member or a call
-abbrev pub isLink : ℕ → Bool
-isLink kind = eqb kind 10 || eqb kind 11 || eqb kind 12 || eqb kind 14
+abbrev pub isChainElement : ℕ → Bool
+isChainElement kind = eqb kind 10 || eqb kind 11 || eqb kind 12 || eqb kind 14
 
 -- kinds 4 and 29, whose label is a name number
 abbrev pub isNamed : ℕ → Bool
 isNamed kind = eqb kind 4 || eqb kind 29
 
--- "Kinds, with children": the fewest and the most children of kinds 0 to 30. (26, a property, is judged by its flags.)
+-- "Kinds, with children": the fewest and the most children of each kind, 65535 for any number. (26, a property, is judged by
+-- its flags.)
 unfoldable pub fewest : List ℕ
 fewest =
-    0 ∷ 0 ∷ 0 ∷ 0 ∷ 0 ∷ 0 ∷ 1 ∷ 0 ∷ 1 ∷ 1 ∷ 1 ∷ 1 ∷ 2 ∷ 1 ∷ 1 ∷ 1 ∷ 2 ∷ 2 ∷ 1 ∷ 3 ∷ 2 ∷ 0 ∷ 0 ∷ 0 ∷ 1 ∷ 1 ∷ 1 ∷ 0 ∷ 2 ∷ 0 ∷ 0 ∷ []
+    0 ∷  -- 0 other
+    0 ∷  -- 1 literal
+    0 ∷  -- 2 function
+    0 ∷  -- 3 class
+    0 ∷  -- 4 name
+    0 ∷  -- 5 this
+    1 ∷  -- 6 await
+    0 ∷  -- 7 yield
+    1 ∷  -- 8 import
+    1 ∷  -- 9 unary
+    1 ∷  -- 10 static member
+    1 ∷  -- 11 private member
+    2 ∷  -- 12 computed member
+    1 ∷  -- 13 chain
+    1 ∷  -- 14 call
+    1 ∷  -- 15 new
+    2 ∷  -- 16 binary
+    2 ∷  -- 17 logical
+    1 ∷  -- 18 private in
+    3 ∷  -- 19 conditional
+    2 ∷  -- 20 assignment
+    0 ∷  -- 21 array
+    0 ∷  -- 22 object
+    0 ∷  -- 23 template
+    1 ∷  -- 24 tagged template
+    1 ∷  -- 25 spread
+    1 ∷  -- 26 property
+    0 ∷  -- 27 elision
+    2 ∷  -- 28 sequence
+    0 ∷  -- 29 target name
+    0 ∷  -- 30 opaque target
+    []
 
 unfoldable pub most : List ℕ
 most =
-    0 ∷ 0 ∷ 0 ∷ 0 ∷ 0 ∷ 0 ∷ 1 ∷ 1 ∷ 1 ∷ 1 ∷ 1 ∷ 1 ∷ 2 ∷ 1 ∷ 65535 ∷ 65535 ∷ 2 ∷ 2 ∷ 1 ∷ 3 ∷ 2 ∷ 65535 ∷ 65535 ∷ 65535 ∷ 65535 ∷ 1 ∷ 2 ∷ 0 ∷ 65535 ∷ 0 ∷ 0 ∷ []
+    0 ∷  -- 0 other
+    0 ∷  -- 1 literal
+    0 ∷  -- 2 function
+    0 ∷  -- 3 class
+    0 ∷  -- 4 name
+    0 ∷  -- 5 this
+    1 ∷  -- 6 await
+    1 ∷  -- 7 yield
+    1 ∷  -- 8 import
+    1 ∷  -- 9 unary
+    1 ∷  -- 10 static member
+    1 ∷  -- 11 private member
+    2 ∷  -- 12 computed member
+    1 ∷  -- 13 chain
+    65535 ∷  -- 14 call
+    65535 ∷  -- 15 new
+    2 ∷  -- 16 binary
+    2 ∷  -- 17 logical
+    1 ∷  -- 18 private in
+    3 ∷  -- 19 conditional
+    2 ∷  -- 20 assignment
+    65535 ∷  -- 21 array
+    65535 ∷  -- 22 object
+    65535 ∷  -- 23 template
+    65535 ∷  -- 24 tagged template
+    1 ∷  -- 25 spread
+    2 ∷  -- 26 property
+    0 ∷  -- 27 elision
+    65535 ∷  -- 28 sequence
+    0 ∷  -- 29 target name
+    0 ∷  -- 30 opaque target
+    []
 
 -- a property has two children where its key is computed and isn't the string `__proto__`, else one
 abbrev pub twoChildren : ℕ → Bool
@@ -43,7 +106,7 @@ goodChildren n =
 unfoldable pub goodFlags : NodeRecord → Bool
 goodFlags n =
     ltb (n .flags) 128
-    && (not (optional (n .flags)) || isLink (n .kind))
+    && (not (optional (n .flags)) || isChainElement (n .kind))
     && (not (anonymous (n .flags)) || eqb (n .kind) 2 || eqb (n .kind) 3)
     && (not (compound (n .flags)) || eqb (n .kind) 20)
     && (not (shorthand (n .flags)) || eqb (n .kind) 26)

@@ -4,8 +4,8 @@ use mathlib.Core.Bool.{Bool, true, false, cond, _&&_, _||_, not}
 use mathlib.Core.List.{List, [], _∷_}
 use lib.Dec.{eqb, ltb}
 use Rattle.records.specs.Flags.{optional, shorthand}
-use Rattle.records.specs.Node.{isLink}
-use Rattle.records.specs.Tree.{Node, Tree, Trees, node, none, more, count, rowOf, closed}
+use Rattle.records.specs.Node.{isChainElement}
+use Rattle.records.specs.Tree.{Node, Tree, Trees, node, none, more, count, forestOf, closed}
 use Rattle.records.specs.File.{one, initializers}
 use Rattle.records.specs.declared.layout.NodeRecord.{NodeRecord}
 use Rattle.records.specs.declared.layout.DeclaratorRecord.{DeclaratorRecord}
@@ -21,39 +21,40 @@ isExpression kind = ltb kind 25 || eqb kind 28
 unfoldable pub mayStand : ℕ → ℕ → ℕ → ℕ → Bool
 mayStand parent flags index kind =
     cond (eqb parent 22) (eqb kind 25 || eqb kind 26)
-    (cond (eqb parent 13) (isLink kind)
+    (cond (eqb parent 13) (isChainElement kind)
     (cond (eqb parent 20 && eqb index 0) (eqb kind 10 || eqb kind 11 || eqb kind 12 || eqb kind 29 || eqb kind 30)
     (cond (eqb parent 26 && shorthand flags) (eqb kind 4)
     (cond (eqb parent 21) (isExpression kind || eqb kind 25 || eqb kind 27)
     (cond ((eqb parent 14 || eqb parent 15) && not (eqb index 0)) (isExpression kind || eqb kind 25)
     (isExpression kind))))))
 
--- a tree of 10, 11, 12 and 14 along first children with an optional node among them, so that a 13 must stand above it
+-- A tree is unchained if it has an optional node that isn't yet under its chain (13): one that the root reaches by first children
+-- of 10, 11, 12 and 14 alone.
 unfoldable mutual
-  pub loose : Tree → Bool
-  loose (node n kids) = isLink (n .kind) && (optional (n .flags) || looseFirst kids)
+  pub unchained : Tree → Bool
+  unchained (node n kids) = isChainElement (n .kind) && (optional (n .flags) || unchainedFirst kids)
 
-  pub looseFirst : Trees → Bool
-  looseFirst none = false
-  looseFirst (more t ts) = loose t
+  pub unchainedFirst : Trees → Bool
+  unchainedFirst none = false
+  unchainedFirst (more t ts) = unchained t
 
 abbrev pub root : Tree → Node
 root (node n kids) = n
 
--- a parent over whose first child a chain goes on: a 13, or a link of one
+-- a parent whose first child may be unchained: the chain itself (13), or a member or call under it
 abbrev pub chains : ℕ → Bool
-chains kind = eqb kind 13 || isLink kind
+chains kind = eqb kind 13 || isChainElement kind
 
 -- "An optional node reaches a 13 above it by first children of 10, 11, 12 and 14 alone": what a child of this number may
 -- be under a parent of this kind.
-unfoldable pub mayBeLoose : ℕ → ℕ → Bool
-mayBeLoose parent index = eqb index 0 && chains parent
+unfoldable pub mayBeUnchained : ℕ → ℕ → Bool
+mayBeUnchained parent index = eqb index 0 && chains parent
 
 -- every child stands where it may, where the first of these is the child of number i
 unfoldable pub standUnder : Node → ℕ → Trees → Bool
 standUnder p i none = true
 standUnder p i (more t ts) =
-    mayStand (p .kind) (p .flags) i (root t .kind) && (not (loose t) || mayBeLoose (p .kind) i) && standUnder p (i + 1) ts
+    mayStand (p .kind) (p .flags) i (root t .kind) && (not (unchained t) || mayBeUnchained (p .kind) i) && standUnder p (i + 1) ts
 
 -- so it is at every node
 unfoldable mutual
@@ -64,12 +65,12 @@ unfoldable mutual
   allPlaced none = true
   allPlaced (more t ts) = placed t && allPlaced ts
 
--- statement roots: expressions, with no optional node that reaches no 13
+-- the trees of statements: expressions that aren't unchained
 unfoldable pub rootsStand : Trees → Bool
 rootsStand none = true
-rootsStand (more t ts) = isExpression (root t .kind) && not (loose t) && rootsStand ts
+rootsStand (more t ts) = isExpression (root t .kind) && not (unchained t) && rootsStand ts
 
--- how many trees the statements have
+-- how many statements are expressions
 unfoldable pub expressions : List StatementRecord → ℕ
 expressions [] = 0
 expressions (s ∷ ss) = one (eqb (s .kind) 5) + expressions ss
@@ -77,4 +78,4 @@ expressions (s ∷ ss) = one (eqb (s .kind) 5) + expressions ss
 -- 8: "trees don't close, or a child where its kind can't stand"
 unfoldable pub badTrees : List DeclaratorRecord → List StatementRecord → List NodeRecord → Bool
 badTrees ds ss ns =
-    not (closed ns && eqb (count (rowOf ns)) (initializers ds + expressions ss) && rootsStand (rowOf ns) && allPlaced (rowOf ns))
+    not (closed ns && eqb (count (forestOf ns)) (initializers ds + expressions ss) && rootsStand (forestOf ns) && allPlaced (forestOf ns))

@@ -5,11 +5,11 @@ use mathlib.Core.List.{List}
 use lib.ListN.{length}
 use lib.Dec.{ltb}
 use Rattle.records.specs.Record.{headerOf}
-use Rattle.records.specs.Tree.{rowOf}
+use Rattle.records.specs.Tree.{forestOf}
 use Rattle.records.specs.File.{namesOf, scopesOf, framesOf, nodesOf, declaratorsOf, statementsOf}
-use Rattle.records.specs.Header.{notAScript, otherVersion, outsideLimits, otherLength}
+use Rattle.records.specs.Header.{notARecordFile, otherVersion, outsideLimits, otherLength}
 use Rattle.records.specs.Facts.{badFacts}
-use Rattle.records.specs.Script.{badScript, declaredTwice}
+use Rattle.records.specs.Script.{badStatements, declaredTwice}
 use Rattle.records.specs.Node.{badNodes}
 use Rattle.records.specs.Place.{badTrees}
 use Rattle.records.specs.Count.{badCounts}
@@ -25,15 +25,15 @@ row number holds later = cond holds number later
 -- The number that a file and a room for its result are refused with; 0 if they are accepted.
 unfoldable pub refusal : List ℕ → ℕ → ℕ
 refusal bs room =
-    row 1 (notAScript bs)
+    row 1 (notARecordFile bs)
     (row 2 (otherVersion (headerOf bs))
     (row 3 (outsideLimits (headerOf bs))
     (row 4 (otherLength bs (headerOf bs))
     (row 5 (badFacts (namesOf bs) (scopesOf bs) (framesOf bs))
-    (row 6 (badScript (namesOf bs) (declaratorsOf bs) (statementsOf bs))
+    (row 6 (badStatements (namesOf bs) (declaratorsOf bs) (statementsOf bs))
     (row 7 (badNodes (namesOf bs) (nodesOf bs))
     (row 8 (badTrees (declaratorsOf bs) (statementsOf bs) (nodesOf bs))
     (row 9 (declaredTwice (declaratorsOf bs))
-    (row 10 (badCounts (namesOf bs) (rowOf (nodesOf bs)))
+    (row 10 (badCounts (namesOf bs) (forestOf (nodesOf bs)))
     (row 11 (ltb room (roomWanted bs))
     0))))))))))

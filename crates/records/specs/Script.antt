@@ -38,8 +38,8 @@ declaratorSum [] = 0
 declaratorSum (s ∷ ss) = s .declarators + declaratorSum ss
 
 -- 6: "bad declarator or statement, an unresolved declared name, or counts not summing to D"
-unfoldable pub badScript : List NameFacts → List DeclaratorRecord → List StatementRecord → Bool
-badScript names ds ss = not (every (goodDeclarator names) ds && every goodStatement ss && eqb (declaratorSum ss) (length ds))
+unfoldable pub badStatements : List NameFacts → List DeclaratorRecord → List StatementRecord → Bool
+badStatements names ds ss = not (every (goodDeclarator names) ds && every goodStatement ss && eqb (declaratorSum ss) (length ds))
 
 -- whether a name is declared
 unfoldable pub declares : ℕ → List DeclaratorRecord → Bool

@@ -11,7 +11,7 @@ pub record Node : Type 0 where
   pub label : ℕ
   pub position : ℕ
 
--- a node over its children; and trees in a row
+-- a tree, a node over its children; and a forest, trees one after the other
 mutual
   pub data Tree : Type 0 where
     node : Node → Trees → Tree
@@ -20,7 +20,7 @@ mutual
     none : Trees
     more : Tree → Trees → Trees
 
--- how many trees stand in a row
+-- how many trees a forest has
 unfoldable pub count : Trees → ℕ
 count none = 0
 count (more t ts) = suc (count ts)
@@ -34,12 +34,12 @@ unfoldable mutual
   sizes none = 0
   sizes (more t ts) = size t + sizes ts
 
--- two rows, one after the other
+-- two forests, one after the other
 unfoldable pub joined : Trees → Trees → Trees
 joined none us = us
 joined (more t ts) us = more t (joined ts us)
 
--- the first k trees of a row, and the others
+-- the first k trees of a forest, and the others
 unfoldable pub firsts : ℕ → Trees → Trees
 firsts zero ts = none
 firsts (suc k) none = none
@@ -66,16 +66,16 @@ unfoldable mutual
 unfoldable pub nodeOf : NodeRecord → Node
 nodeOf r = record { kind = r .kind; flags = r .flags; label = r .label; position = r .position }
 
--- a record before a row: its node takes as many of the row's trees as the record says
+-- a record before a forest: its node takes as many of the trees as the record says
 unfoldable pub grown : NodeRecord → Trees → Trees
-grown r row = more (node (nodeOf r) (firsts (r .children) row)) (others (r .children) row)
+grown r forest = more (node (nodeOf r) (firsts (r .children) forest)) (others (r .children) forest)
 
--- the row of trees that the records stand for
-unfoldable pub rowOf : List NodeRecord → Trees
-rowOf [] = none
-rowOf (r ∷ rs) = grown r (rowOf rs)
+-- the forest that the records stand for
+unfoldable pub forestOf : List NodeRecord → Trees
+forestOf [] = none
+forestOf (r ∷ rs) = grown r (forestOf rs)
 
 -- every record finds as many trees behind it as it says: "trees close"
 unfoldable pub closed : List NodeRecord → Bool
 closed [] = true
-closed (r ∷ rs) = leb (r .children) (count (rowOf rs)) && closed rs
+closed (r ∷ rs) = leb (r .children) (count (forestOf rs)) && closed rs

@@ -2,6 +2,8 @@
 ghost use mathlib.Core.Path.{_≡_};
 ghost use Prim.Native.Nat.{_+_, _≤_};
 ghost use lib.ListN.{length};
+ghost use Rattle.records.specs.Limits.{headerLength, nameLength, scopeLength, frameLength, nodeLength};
+ghost use Rattle.records.specs.Limits.{declaratorLength, statementLength};
 ghost use Rattle.records.specs.Record.{headerOf, nameAt, scopeAt, frameAt, nodeAt, declaratorAt, statementAt};
 use crate::number::u16_at;
 use crate::number::u32_at;
@@ -66,8 +68,8 @@ pub struct StatementRecord {
 
 // The header of a file of at least 24 bytes.
 pub fn header_of(file: &[u8]) -> Header
-    requires { ⌜ 24 ≤ length (now file) ⌝ }
-    ensures { λ r. ⌜ r ≡ headerOf (now (file .entry)) ⌝ }
+    requires room { ⌜ headerLength ≤ length (now file) ⌝ }
+    ensures result { λ r. ⌜ r ≡ headerOf (now (file .entry)) ⌝ }
 {
     Header {
         options: file[3],
@@ -86,8 +88,8 @@ pub fn header_of(file: &[u8]) -> Header
 
 // The record that begins at `at`, of each kind.
 pub fn name_at(file: &[u8], at: usize) -> NameFacts
-    requires { ⌜ at + 12 ≤ length (now file) ⌝ }
-    ensures { λ r. ⌜ r ≡ nameAt (now (file .entry)) at ⌝ }
+    requires room { ⌜ at + nameLength ≤ length (now file) ⌝ }
+    ensures result { λ r. ⌜ r ≡ nameAt (now (file .entry)) at ⌝ }
 {
     NameFacts {
         flags: u16_at(file, at),
@@ -98,8 +100,8 @@ pub fn name_at(file: &[u8], at: usize) -> NameFacts
 }
 
 pub fn scope_at(file: &[u8], at: usize) -> Scope
-    requires { ⌜ at + 4 ≤ length (now file) ⌝ }
-    ensures { λ r. ⌜ r ≡ scopeAt (now (file .entry)) at ⌝ }
+    requires room { ⌜ at + scopeLength ≤ length (now file) ⌝ }
+    ensures result { λ r. ⌜ r ≡ scopeAt (now (file .entry)) at ⌝ }
 {
     Scope {
         parent: u16_at(file, at),
@@ -108,8 +110,8 @@ pub fn scope_at(file: &[u8], at: usize) -> Scope
 }
 
 pub fn frame_at(file: &[u8], at: usize) -> Frame
-    requires { ⌜ at + 8 ≤ length (now file) ⌝ }
-    ensures { λ r. ⌜ r ≡ frameAt (now (file .entry)) at ⌝ }
+    requires room { ⌜ at + frameLength ≤ length (now file) ⌝ }
+    ensures result { λ r. ⌜ r ≡ frameAt (now (file .entry)) at ⌝ }
 {
     Frame {
         scope: u16_at(file, at),
@@ -119,8 +121,8 @@ pub fn frame_at(file: &[u8], at: usize) -> Frame
 }
 
 pub fn node_at(file: &[u8], at: usize) -> NodeRecord
-    requires { ⌜ at + 12 ≤ length (now file) ⌝ }
-    ensures { λ r. ⌜ r ≡ nodeAt (now (file .entry)) at ⌝ }
+    requires room { ⌜ at + nodeLength ≤ length (now file) ⌝ }
+    ensures result { λ r. ⌜ r ≡ nodeAt (now (file .entry)) at ⌝ }
 {
     NodeRecord {
         kind: file[at],
@@ -133,8 +135,8 @@ pub fn node_at(file: &[u8], at: usize) -> NodeRecord
 }
 
 pub fn declarator_at(file: &[u8], at: usize) -> DeclaratorRecord
-    requires { ⌜ at + 4 ≤ length (now file) ⌝ }
-    ensures { λ r. ⌜ r ≡ declaratorAt (now (file .entry)) at ⌝ }
+    requires room { ⌜ at + declaratorLength ≤ length (now file) ⌝ }
+    ensures result { λ r. ⌜ r ≡ declaratorAt (now (file .entry)) at ⌝ }
 {
     DeclaratorRecord {
         name: u16_at(file, at),
@@ -143,8 +145,8 @@ pub fn declarator_at(file: &[u8], at: usize) -> DeclaratorRecord
 }
 
 pub fn statement_at(file: &[u8], at: usize) -> StatementRecord
-    requires { ⌜ at + 4 ≤ length (now file) ⌝ }
-    ensures { λ r. ⌜ r ≡ statementAt (now (file .entry)) at ⌝ }
+    requires room { ⌜ at + statementLength ≤ length (now file) ⌝ }
+    ensures result { λ r. ⌜ r ≡ statementAt (now (file .entry)) at ⌝ }
 {
     StatementRecord {
         kind: file[at],

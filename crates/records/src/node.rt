@@ -4,106 +4,130 @@ ghost use mathlib.Core.Bool.{_&&_, _||_, not};
 ghost use Prim.Native.Nat.{_+_, _*_, _≤_, _<_};
 ghost use lib.ListN.{length};
 ghost use lib.Dec.{ltb};
-ghost use Rattle.records.specs.Record.{nameAt};
-ghost use Rattle.records.specs.Records.{recordsFrom};
+ghost use Rattle.records.specs.Limits.{headerLength, nameLength};
 ghost use Rattle.records.specs.Flags.{marked as isMarked, unresolved as isUnresolved};
+ghost use Rattle.records.specs.File.{factsFrom};
 ghost use Rattle.records.specs.Script.{flagsOf};
 ghost use Rattle.records.specs.Node.{fewest as fewestOf, most as mostOf, goodChildren, goodFlags, mayMark, goodNode};
 ghost use Rattle.records.specs.Place.{isExpression};
-use crate::facts::flags_of;
+use crate::facts::facts_of;
+use crate::flags::ANONYMOUS;
+use crate::flags::COMPOUND;
+use crate::flags::COMPUTED;
+use crate::flags::MARKED;
+use crate::flags::OPTIONAL;
+use crate::flags::PROTO;
+use crate::flags::SHORTHAND;
+use crate::flags::is_computed;
+use crate::flags::is_marked;
+use crate::flags::is_proto;
+use crate::flags::is_unresolved;
+use crate::kinds::ASSIGNMENT;
+use crate::kinds::CLASS;
+use crate::kinds::FUNCTION;
+use crate::kinds::NAME;
+use crate::kinds::OPAQUE_TARGET;
+use crate::kinds::PROPERTY;
+use crate::kinds::SEQUENCE;
+use crate::kinds::SPREAD;
+use crate::kinds::TARGET_NAME;
 use crate::layout::NameId;
 use crate::layout::NodeRecord;
 use crate::limits::NO_POSITION;
 use crate::number::wide;
 use crate::set::has_bit;
 
-// The fewest and the most children of kinds 0 to 30; 65535: any number.
+// Any number of children.
+const ANY: u16 = 65535;
+
+// The fewest and the most children of each kind.
 pub const FEWEST: [u16; 31] = [
-    0,
-    0,
-    0,
-    0,
-    0,
-    0,
-    1,
-    0,
-    1,
-    1,
-    1,
-    1,
-    2,
-    1,
-    1,
-    1,
-    2,
-    2,
-    1,
-    3,
-    2,
-    0,
-    0,
-    0,
-    1,
-    1,
-    1,
-    0,
-    2,
-    0,
-    0,
+    0, // OTHER
+    0, // LITERAL
+    0, // FUNCTION
+    0, // CLASS
+    0, // NAME
+    0, // THIS
+    1, // AWAIT
+    0, // YIELD
+    1, // IMPORT
+    1, // UNARY
+    1, // STATIC_MEMBER
+    1, // PRIVATE_MEMBER
+    2, // COMPUTED_MEMBER
+    1, // CHAIN
+    1, // CALL
+    1, // NEW
+    2, // BINARY
+    2, // LOGICAL
+    1, // PRIVATE_IN
+    3, // CONDITIONAL
+    2, // ASSIGNMENT
+    0, // ARRAY
+    0, // OBJECT
+    0, // TEMPLATE
+    1, // TAGGED_TEMPLATE
+    1, // SPREAD
+    1, // PROPERTY
+    0, // ELISION
+    2, // SEQUENCE
+    0, // TARGET_NAME
+    0, // OPAQUE_TARGET
 ];
 
 pub const MOST: [u16; 31] = [
-    0,
-    0,
-    0,
-    0,
-    0,
-    0,
-    1,
-    1,
-    1,
-    1,
-    1,
-    1,
-    2,
-    1,
-    65535,
-    65535,
-    2,
-    2,
-    1,
-    3,
-    2,
-    65535,
-    65535,
-    65535,
-    65535,
-    1,
-    2,
-    0,
-    65535,
-    0,
-    0,
+    0, // OTHER
+    0, // LITERAL
+    0, // FUNCTION
+    0, // CLASS
+    0, // NAME
+    0, // THIS
+    1, // AWAIT
+    1, // YIELD
+    1, // IMPORT
+    1, // UNARY
+    1, // STATIC_MEMBER
+    1, // PRIVATE_MEMBER
+    2, // COMPUTED_MEMBER
+    1, // CHAIN
+    ANY, // CALL
+    ANY, // NEW
+    2, // BINARY
+    2, // LOGICAL
+    1, // PRIVATE_IN
+    3, // CONDITIONAL
+    2, // ASSIGNMENT
+    ANY, // ARRAY
+    ANY, // OBJECT
+    ANY, // TEMPLATE
+    ANY, // TAGGED_TEMPLATE
+    1, // SPREAD
+    2, // PROPERTY
+    0, // ELISION
+    ANY, // SEQUENCE
+    0, // TARGET_NAME
+    0, // OPAQUE_TARGET
 ];
 
-// The kinds that may be marked, a name (4, 29) if its facts allow it: all but 1, 2, 5, 13 and 26 to 28.
+// The kinds that may be marked, a NAME or TARGET_NAME if its facts allow it: all but LITERAL, FUNCTION, THIS, CHAIN, PROPERTY,
+// ELISION and SEQUENCE.
 const MARKABLE: u64 = 0x63ff_dfd9;
 
-// Members and calls: 10, 11, 12 and 14.
-const LINKS: u64 = 0x5c00;
+// STATIC_MEMBER, PRIVATE_MEMBER, COMPUTED_MEMBER and CALL.
+const CHAIN_ELEMENTS: u64 = 0x5c00;
 
 pub fn is_expression(kind: u16) -> bool
-    ensures { λ r. ⌜ r ≡ isExpression kind ⌝ }
+    ensures result { λ r. ⌜ r ≡ isExpression kind ⌝ }
 {
-    (kind < 25) | (kind == 28)
+    (kind < SPREAD as u16) | (kind == SEQUENCE as u16)
 }
 
 // The two tables are lent: a constant would be laid down anew for each node.
 fn children_are_good(n: NodeRecord, fewest: &[u16], most: &[u16]) -> bool
-    requires { ⌜ n .kind ≤ 30 ⌝ }
-    requires { ⌜ now fewest ≡ fewestOf ⌝ }
-    requires { ⌜ now most ≡ mostOf ⌝ }
-    ensures { λ r. ⌜ r ≡ goodChildren n ⌝ }
+    requires kind { ⌜ n .kind ≤ 30 ⌝ }
+    requires fewest { ⌜ now fewest ≡ fewestOf ⌝ }
+    requires most { ⌜ now most ≡ mostOf ⌝ }
+    ensures result { λ r. ⌜ r ≡ goodChildren n ⌝ }
 {
     let kind = n.kind as usize;
     if n.children < fewest[kind] {
@@ -112,10 +136,8 @@ fn children_are_good(n: NodeRecord, fewest: &[u16], most: &[u16]) -> bool
     if most[kind] < n.children {
         return false;
     }
-    if n.kind == 26 {
-        let computed = n.flags / 32 % 2 == 1;
-        let proto = n.flags / 64 % 2 == 1;
-        let two = computed & !proto;
+    if n.kind == PROPERTY {
+        let two = is_computed(n) & !is_proto(n);
         return two & (n.children == 2) | !two & (n.children == 1);
     }
     true
@@ -123,51 +145,53 @@ fn children_are_good(n: NodeRecord, fewest: &[u16], most: &[u16]) -> bool
 
 // The flags of a node that has some, its mark as if its name were unresolved.
 fn flags_are_good(n: NodeRecord) -> bool
-    requires { ⌜ n .kind ≤ 30 ⌝ }
-    requires { ⌜ 0 < n .flags ⌝ }
-    ensures { λ r. ⌜ r ≡ (goodFlags n && (not (isMarked (n .flags)) || mayMark 128 n)) ⌝ }
+    requires kind { ⌜ n .kind ≤ 30 ⌝ }
+    requires flags { ⌜ 0 < n .flags ⌝ }
+    ensures result { λ r. ⌜ r ≡ (goodFlags n && (not (isMarked (n .flags)) || mayMark 128 n)) ⌝ }
 {
-    if n.flags == 1 {
+    if n.flags == MARKED {
         return has_bit(MARKABLE, wide(n.kind));
     }
-    if n.flags < 4 {
-        return has_bit(LINKS, wide(n.kind));
+    if n.flags <= OPTIONAL + MARKED {
+        return has_bit(CHAIN_ELEMENTS, wide(n.kind));
     }
-    if n.kind == 26 {
-        return (n.flags == 16)
-            | (n.flags == 32)
-            | (n.flags == 64)
-            | (n.flags == 80)
-            | (n.flags == 96);
+    if n.kind == PROPERTY {
+        return (n.flags == SHORTHAND)
+            | (n.flags == COMPUTED)
+            | (n.flags == PROTO)
+            | (n.flags == SHORTHAND + PROTO)
+            | (n.flags == COMPUTED + PROTO);
     }
-    if n.kind == 20 {
-        return (n.flags == 8) | (n.flags == 9);
+    if n.kind == ASSIGNMENT {
+        return (n.flags == COMPOUND) | (n.flags == COMPOUND + MARKED);
     }
-    (n.flags == 4) & ((n.kind == 2) | (n.kind == 3)) | (n.flags == 5) & (n.kind == 3)
+    (n.flags == ANONYMOUS) & ((n.kind == FUNCTION) | (n.kind == CLASS))
+        | (n.flags == ANONYMOUS + MARKED) & (n.kind == CLASS)
 }
 
 // The label of a name among `names` names, and its mark.
 fn label_is_good(file: &[u8], names: u16, n: NodeRecord) -> bool
-    requires { ⌜ 24 + 12 * names ≤ length (now file) ⌝ }
-    ensures { λ r. ⌜ r ≡ (ltb (n .label) names && (not (isMarked (n .flags)) || isUnresolved (flagsOf (recordsFrom (nameAt (now (file .entry))) 12 names 24) (n .label)))) ⌝ }
+    requires names { ⌜ headerLength + nameLength * names ≤ length (now file) ⌝ }
+    ensures result { λ r. let flags = flagsOf (factsFrom (now (file .entry)) headerLength names) (n .label) in
+        ⌜ r ≡ (ltb (n .label) names && (not (isMarked (n .flags)) || isUnresolved flags)) ⌝ }
 {
     if names <= n.label {
         return false;
     }
-    if n.flags / 1 % 2 == 1 {
-        return flags_of(file, names, NameId(n.label)) / 128 % 2 == 1;
+    if is_marked(n) {
+        return is_unresolved(facts_of(file, names, NameId(n.label)));
     }
     true
 }
 
 // A node by itself. Of those whose children are good only nodes without children are names.
 pub fn node_is_good(file: &[u8], names: u16, n: NodeRecord, fewest: &[u16], most: &[u16]) -> bool
-    requires { ⌜ 24 + 12 * names ≤ length (now file) ⌝ }
-    requires { ⌜ now fewest ≡ fewestOf ⌝ }
-    requires { ⌜ now most ≡ mostOf ⌝ }
-    ensures { λ r. ⌜ r ≡ goodNode (recordsFrom (nameAt (now (file .entry))) 12 names 24) n ⌝ }
+    requires names { ⌜ headerLength + nameLength * names ≤ length (now file) ⌝ }
+    requires fewest { ⌜ now fewest ≡ fewestOf ⌝ }
+    requires most { ⌜ now most ≡ mostOf ⌝ }
+    ensures result { λ r. ⌜ r ≡ goodNode (factsFrom (now (file .entry)) headerLength names) n ⌝ }
 {
-    if 30 < n.kind {
+    if OPAQUE_TARGET < n.kind {
         return false;
     }
     if n.position == NO_POSITION {
@@ -185,7 +209,7 @@ pub fn node_is_good(file: &[u8], names: u16, n: NodeRecord, fewest: &[u16], most
         return false;
     }
     if n.children == 0 {
-        let named = (n.kind == 4) | (n.kind == 29);
+        let named = (n.kind == NAME) | (n.kind == TARGET_NAME);
         if named {
             return label_is_good(file, names, n);
         }

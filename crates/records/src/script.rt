@@ -1,33 +1,41 @@
-// Row 6 of the refusal table: declarators and statements by themselves; with what the trees and their number depend on.
+// Row 6 of the refusal table: declarators and statements by themselves; with the counts that the number of trees follows from.
 ghost use mathlib.Core.Path.{_≡_};
 ghost use Prim.Native.Nat.{_+_, _*_, _≤_};
 ghost use lib.ListN.{length};
-ghost use Rattle.records.specs.Record.{nameAt, declaratorAt, statementAt};
-ghost use Rattle.records.specs.Records.{recordsFrom, every};
-ghost use Rattle.records.specs.File.{initializers};
+ghost use Rattle.records.specs.Limits.{headerLength, nameLength, declaratorLength, statementLength};
+ghost use Rattle.records.specs.Records.{every};
+ghost use Rattle.records.specs.File.{factsFrom, declaratorsFrom, statementsFrom, initializers};
 ghost use Rattle.records.specs.Script.{goodDeclarator, goodDeclaratorOf, goodStatement, declaratorSum};
 ghost use Rattle.records.specs.Place.{expressions};
-use crate::facts::flags_of;
+use crate::facts::facts_of;
+use crate::flags::is_unresolved;
+use crate::kinds::EXPRESSION_STATEMENT;
+use crate::kinds::OTHER_STATEMENT;
 use crate::layout::DeclaratorRecord;
+use crate::layout::NameFacts;
 use crate::layout::NameId;
 use crate::layout::StatementRecord;
 use crate::layout::declarator_at;
 use crate::layout::statement_at;
+use crate::limits::DECLARATOR_LENGTH;
 use crate::limits::NO_NUMBER;
+use crate::limits::STATEMENT_LENGTH;
 use crate::number::one;
 use crate::number::size;
 
-pub fn declarator_is_good(d: DeclaratorRecord, names: u16, name_flags: u16) -> bool
-    ensures { λ r. ⌜ r ≡ goodDeclaratorOf names «name_flags» d ⌝ }
+// A declarator, with the facts of its name, among `names` names.
+pub fn declarator_is_good(d: DeclaratorRecord, names: u16, facts: NameFacts) -> bool
+    ensures result { λ r. ⌜ r ≡ goodDeclaratorOf names (facts .flags) d ⌝ }
 {
-    let unresolved = name_flags / 128 % 2 == 1;
+    let unresolved = is_unresolved(facts);
     (d.present <= 1) & ((d.name == NO_NUMBER) | (d.name < names) & !unresolved)
 }
 
 pub fn statement_is_good(s: StatementRecord) -> bool
-    ensures { λ r. ⌜ r ≡ goodStatement s ⌝ }
+    ensures result { λ r. ⌜ r ≡ goodStatement s ⌝ }
 {
-    (s.kind <= 6) & (s.zero == 0) & ((s.kind < 5) | (s.declarators == 0))
+    let declaration = s.kind < EXPRESSION_STATEMENT;
+    (s.kind <= OTHER_STATEMENT) & (s.zero == 0) & (declaration | (s.declarators == 0))
 }
 
 pub struct DeclaratorTotals {
@@ -37,17 +45,18 @@ pub struct DeclaratorTotals {
 
 // Whether all of the declarators from `from` on are good, and how many have an initializer.
 pub fn declarator_totals(file: &[u8], from: usize, count: usize, names: u16) -> DeclaratorTotals
-    requires { ⌜ from + 4 * count ≤ length (now file) ⌝ }
-    requires { ⌜ 24 + 12 * names ≤ length (now file) ⌝ }
-    ensures { λ r. ⌜ r .good ≡ every (goodDeclarator (recordsFrom (nameAt (now (file .entry))) 12 names 24)) (recordsFrom (declaratorAt (now (file .entry))) 4 count from) ⌝ }
-    ensures { λ r. ⌜ r .initializers ≡ initializers (recordsFrom (declaratorAt (now (file .entry))) 4 count from) ⌝ }
+    requires declarators { ⌜ from + declaratorLength * count ≤ length (now file) ⌝ }
+    requires names { ⌜ headerLength + nameLength * names ≤ length (now file) ⌝ }
+    ensures good { λ r. let bs = now (file .entry) in
+        ⌜ r .good ≡ every (goodDeclarator (factsFrom bs headerLength names)) (declaratorsFrom bs from count) ⌝ }
+    ensures initializers { λ r. ⌜ r .initializers ≡ initializers (declaratorsFrom (now (file .entry)) from count) ⌝ }
 {
     let mut good = true;
     let mut with_tree = 0;
     let mut i = 0;
     while i < count {
-        let d = declarator_at(file, from + 4 * i);
-        good = good & declarator_is_good(d, names, flags_of(file, names, NameId(d.name)));
+        let d = declarator_at(file, from + DECLARATOR_LENGTH * i);
+        good = good & declarator_is_good(d, names, facts_of(file, names, NameId(d.name)));
         with_tree += one(d.present == 1);
         i += 1;
     }
@@ -65,21 +74,21 @@ pub struct StatementTotals {
 
 // Whether all of the statements from `from` on are good, the sum of their declarators, and how many are expressions.
 pub fn statement_totals(file: &[u8], from: usize, count: usize) -> StatementTotals
-    requires { ⌜ from + 4 * count ≤ length (now file) ⌝ }
-    requires { ⌜ count ≤ 65535 ⌝ }
-    ensures { λ r. ⌜ r .good ≡ every goodStatement (recordsFrom (statementAt (now (file .entry))) 4 count from) ⌝ }
-    ensures { λ r. ⌜ r .declarators ≡ declaratorSum (recordsFrom (statementAt (now (file .entry))) 4 count from) ⌝ }
-    ensures { λ r. ⌜ r .expressions ≡ expressions (recordsFrom (statementAt (now (file .entry))) 4 count from) ⌝ }
+    requires statements { ⌜ from + statementLength * count ≤ length (now file) ⌝ }
+    requires count { ⌜ count ≤ 65535 ⌝ }
+    ensures good { λ r. ⌜ r .good ≡ every goodStatement (statementsFrom (now (file .entry)) from count) ⌝ }
+    ensures declarators { λ r. ⌜ r .declarators ≡ declaratorSum (statementsFrom (now (file .entry)) from count) ⌝ }
+    ensures expressions { λ r. ⌜ r .expressions ≡ expressions (statementsFrom (now (file .entry)) from count) ⌝ }
 {
     let mut good = true;
     let mut sum = 0;
     let mut with_tree = 0;
     let mut i = 0;
     while i < count {
-        let s = statement_at(file, from + 4 * i);
+        let s = statement_at(file, from + STATEMENT_LENGTH * i);
         good = good & statement_is_good(s);
         sum += size(s.declarators);
-        with_tree += one(s.kind == 5);
+        with_tree += one(s.kind == EXPRESSION_STATEMENT);
         i += 1;
     }
     StatementTotals {

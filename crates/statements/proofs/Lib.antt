@@ -1,7 +1,14 @@
--- The twelve scripts of document 01 and some answers of the Rust, by computation; laws of the numbers of nodes, declarators
--- and statements.
-pub mod Computed
-pub mod Scripts
-pub mod Answers
-pub mod Totals
-pub mod Lengths
+-- Laws of the tables while the statements of a file are taken.
+pub mod Writes
+pub mod Adding
+pub mod Numbers
+pub mod Pushes
+pub mod Loads
+pub mod Searches
+pub mod Definitions
+pub mod Taken
+pub mod Going
+pub mod Folding
+pub mod Result
+pub mod Beginning
+pub mod Sequence

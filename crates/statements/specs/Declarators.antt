@@ -1,123 +1,130 @@
--- The search of a tree from the declarators before it, and within a declaration
--- (src/peephole/minimize_statements.rs 1167-1270).
-use Prim.Native.Nat.{ℕ}
-use mathlib.Core.Bool.{Bool, true, false, cond, _&&_, _||_, not}
-use mathlib.Core.List.{List, [], _∷_, _++_, reverse}
-use lib.Dec.{eqb, ltb}
-use Rattle.records.specs.Limits.{noNumber}
-use Rattle.records.specs.Flags.{bit, recorded, anonymous}
-use Rattle.records.specs.Tree.{Tree, node}
-use Rattle.records.specs.File.{DeclarationKind, Var, Let, Const, Using, AwaitUsing, Initializer, bare, given, Declarator, Statement, declaration}
-use Rattle.walk.specs.Context.{Context, isScript, keepFunctionNames, keepClassNames, factsOf}
-use Rattle.walk.specs.Unsettled.{scopeOf}
-use Rattle.walk.specs.Shape.{is}
-use Rattle.walk.specs.Effect.{isLiteralValue}
-use Rattle.walk.specs.Substitute.{Answer, replaced, stopped, passed, substituteInExpression}
-use Rattle.walk.specs.Looks.{looksInExpression}
-use Rattle.statements.specs.Trace.{Fold, Traced, pure, _>>=_, looked, folded}
+-- The declarators of a declaration, one after the other.
+use Prim.Native.Nat.{ℕ, _-_}
+use mathlib.Core.Bool.{Bool, false, cond}
+use mathlib.Core.List.{List, [], _∷_, _++_}
+use mathlib.Core.Path.{_≡_}
+use lib.ListN.{length}
+use Rattle.records.specs.Tree.{Tree, Trees, more}
+use Rattle.records.specs.File.{DeclarationKind, bare, given, isGiven, Declarator, Statement, initializerTree, initializerTrees, declaratorRecords}
+use Rattle.records.specs.declared.layout.Header.{Header}
+use Rattle.records.specs.declared.layout.NodeRecord.{NodeRecord}
+use Rattle.records.specs.declared.layout.DeclaratorRecord.{DeclaratorRecord}
+use Rattle.walk_rules.specs.Context.{Context}
+use Rattle.statements_rules.specs.Trace.{Traced, pure, _>>=_}
+use Rattle.statements_rules.specs.Declarators.{FromDeclarators, ended, substituteFromDeclarators, withinDeclarator}
+use Rattle.statements_rules.specs.Statements.{Kept, inFirstDeclarator}
+use Rattle.statements_search.specs.KeptStatements.{Tables}
+use Rattle.statements.specs.declared.progress.Progress.{Progress}
+use Rattle.statements.specs.Added.{Adds}
+use Rattle.statements.specs.State.{DeclaratorTables, beside, State, holding, following}
 
--- name facts: bits 2 catch, 5 implicitly observable
-abbrev pub isCatchVariable : ℕ → Bool
-isCatchVariable flags = bit 4 flags
+abbrev pub recordFor : Declarator → DeclaratorRecord
+recordFor d = record { name = d .name; present = isGiven (d .initializer) }
 
-abbrev pub isImplicitlyObservable : ℕ → Bool
-isImplicitlyObservable flags = bit 32 flags
+-- The first declarator of a declaration: no other stands before it.
+abbrev pub CanTakeFirst : List ℕ → Header → Tables → Progress → Type 0
+CanTakeFirst file h t p =
+    (ks : List Kept) × (d : Declarator) × (ts : Trees) × (coming : List DeclaratorRecord) × (left : ℕ) × (rest : List ℕ)
+    × (before : List NodeRecord)
+    × State file h t p (holding (p .«declarators_kept») ks [] bare rest)
+    (following (initializerTree (d .initializer) ts) (recordFor d ∷ coming) left before)
 
--- scope flags: bit 1 direct eval
-abbrev pub containsDirectEval : ℕ → Bool
-containsDirectEval flags = bit 2 flags
+-- it was searched from the statements, and pushed
+abbrev pub TakenFirst : Context → List ℕ → Header → Tables → Tables → List ℕ → List ℕ → Progress → Progress → Type 0
+TakenFirst ctx file h t t′ folded folded′ p r =
+    (ks : List Kept) (d : Declarator) (ts : Trees) (coming : List DeclaratorRecord) (left : ℕ) (rest : List ℕ)
+    (before : List NodeRecord)
+    → State file h t p (holding (p .«declarators_kept») ks [] bare rest)
+    (following (initializerTree (d .initializer) ts) (recordFor d ∷ coming) left before)
+    → (rest′ : List ℕ) × (before′ : List NodeRecord)
+    × State file h t′ r
+    (holding (r .«declarators_kept» - 1) (inFirstDeclarator ctx ks (d ∷ []) .result .left)
+    (inFirstDeclarator ctx ks (d ∷ []) .result .target) bare rest′)
+    (following ts coming left before′)
+    × Adds folded folded′ p r (inFirstDeclarator ctx ks (d ∷ []))
 
--- `is_script_root_scope`
-unfoldable pub isScriptRootScope : Context → Bool
-isScriptRootScope ctx = isScript ctx && eqb (ctx .currentScope) 0
+-- The tree of a later declarator, searched from those before it, unless the declaration isn't searched.
+unfoldable pub laterTree : Context → List Statement → DeclarationKind → Bool → List Declarator → Tree → FromDeclarators
+laterTree ctx before kind searched done t = cond searched (substituteFromDeclarators ctx before kind false done t) (ended t done)
 
--- where no search is made
-unfoldable pub isUnsearched : Context → Bool
-isUnsearched ctx = isScriptRootScope ctx || containsDirectEval (scopeOf (ctx .scopes) (ctx .currentScope) .flags)
+-- It is the next tree, whatever statements stand beside the tables.
+abbrev pub CanTakeLaterTree : List ℕ → Header → DeclaratorTables → ℕ → Progress → Type 0
+CanTakeLaterTree file h tb low p =
+    (statements : List ℕ) × (ks : List Kept) × (done : List Declarator) × (t : Tree) × (ts : Trees)
+    × (coming : List DeclaratorRecord) × (left : ℕ)
+    × (rest : List ℕ) × (before : List NodeRecord)
+    × State file h (beside tb statements) p (holding low ks done bare rest) (following (more t ts) coming left before)
 
--- `is_using`
-unfoldable pub isUsing : DeclarationKind → Bool
-isUsing Var = false
-isUsing Let = false
-isUsing Const = false
-isUsing Using = true
-isUsing AwaitUsing = true
+abbrev pub TakenLaterTree : Context → Bool → List ℕ → Header → DeclaratorTables → DeclaratorTables → List ℕ → List ℕ → ℕ
+    → Progress → Progress → Type 0
+TakenLaterTree ctx searched file h tb tb′ folded folded′ low p r =
+    (statements : List ℕ) (ks : List Kept) (done : List Declarator) (t : Tree) (ts : Trees) (coming : List DeclaratorRecord)
+    (left : ℕ)
+    (rest : List ℕ) (before : List NodeRecord)
+    → State file h (beside tb statements) p (holding low ks done bare rest) (following (more t ts) coming left before)
+    → (above : List Statement) (kind : DeclarationKind)
+    → (rest′ : List ℕ) × (before′ : List NodeRecord)
+    × State file h (beside tb′ statements) r
+    (holding low ks (laterTree ctx above kind searched done t .result .left)
+    (given (laterTree ctx above kind searched done t .result .target)) rest′)
+    (following ts coming left before′)
+    × Adds folded folded′ p r (laterTree ctx above kind searched done t)
 
--- `is_expression_whose_name_needs_to_be_kept`: an anonymous class (3) or function (2), by the options
-unfoldable pub nameNeedsToBeKept : Context → Tree → Bool
-nameNeedsToBeKept ctx (node n kids) =
-    anonymous (n .flags) && (is 3 n && keepClassNames ctx || is 2 n && keepFunctionNames ctx)
+-- A later declarator, behind those that are done, and all that follow.
+unfoldable pub laterDeclarator : Context → List Statement → DeclarationKind → Bool → List Declarator → Declarator
+    → Traced (List Declarator)
+laterDeclarator ctx before kind searched done d = cond searched (withinDeclarator ctx before kind done d (d .initializer))
+    (pure (d ∷ done))
 
--- The tests that end the search at a declarator with an initializer, in the Rust's order: no plain name; `is_catch_variable`;
--- the name kept; no value record; `is_implicitly_observable`; `has_multiple_reads`; `has_writes`; `non_scoped_literal_only`.
-unfoldable pub endsSearch : Context → Bool → ℕ → Tree → Bool
-endsSearch ctx literalOnly name initializer =
-    eqb name noNumber
-    || isCatchVariable (factsOf ctx name .flags)
-    || nameNeedsToBeKept ctx initializer
-    || not (recorded (factsOf ctx name .flags))
-    || isImplicitlyObservable (factsOf ctx name .flags)
-    || ltb 1 (factsOf ctx name .reads)
-    || ltb 0 (factsOf ctx name .writes)
-    || literalOnly && not (isLiteralValue false initializer)
+unfoldable pub laterDeclarators : Context → List Statement → DeclarationKind → Bool → List Declarator → List Declarator
+    → Traced (List Declarator)
+laterDeclarators ctx before kind searched done [] = pure done
+laterDeclarators ctx before kind searched done (d ∷ ds) = do
+  done′ ← laterDeclarator ctx before kind searched done d
+  laterDeclarators ctx before kind searched done′ ds
 
--- what a search leaves: what was searched, and what stands before it, the last first
-pub record Searched (T A : Type 0) : Type 0 where
-  pub target : T
-  pub left : List A
+abbrev pub CanTakeLater : List ℕ → Header → DeclaratorTables → ℕ → Progress → Type 0
+CanTakeLater file h tb low p =
+    (statements : List ℕ) × (ks : List Kept) × (done : List Declarator) × (d : Declarator) × (ts : Trees)
+    × (coming : List DeclaratorRecord) × (left : ℕ)
+    × (rest : List ℕ) × (before : List NodeRecord)
+    × State file h (beside tb statements) p (holding low ks done bare rest)
+    (following (initializerTree (d .initializer) ts) (recordFor d ∷ coming) left before)
 
-abbrev pub ended : {T A : Type 0} → T → List A → Traced (Searched T A)
-ended target left = pure (record { target = target; left = left })
+abbrev pub TakenLater : Context → Bool → List ℕ → Header → DeclaratorTables → DeclaratorTables → List ℕ → List ℕ → ℕ → Progress
+    → Progress → Type 0
+TakenLater ctx searched file h tb tb′ folded folded′ low p r =
+    (statements : List ℕ) (ks : List Kept) (done : List Declarator) (d : Declarator) (ts : Trees)
+    (coming : List DeclaratorRecord) (left : ℕ)
+    (rest : List ℕ) (before : List NodeRecord)
+    → State file h (beside tb statements) p (holding low ks done bare rest)
+    (following (initializerTree (d .initializer) ts) (recordFor d ∷ coming) left before)
+    → (above : List Statement) (kind : DeclarationKind)
+    → (rest′ : List ℕ) × (before′ : List NodeRecord)
+    × State file h (beside tb′ statements) r (holding low ks (laterDeclarator ctx above kind searched done d .result) bare rest′)
+    (following ts coming left before′)
+    × Adds folded folded′ p r (laterDeclarator ctx above kind searched done d)
 
--- the declarator with another tree for its initializer
-abbrev pub withTree : Declarator → Tree → Declarator
-withTree d t = record { name = d .name; initializer = given t }
+-- the next n declarators
+abbrev pub CanTakeAll : List ℕ → Header → DeclaratorTables → ℕ → ℕ → Progress → Type 0
+CanTakeAll file h tb low n p =
+    (statements : List ℕ) × (ks : List Kept) × (done : List Declarator) × (ds : List Declarator) × (ts : Trees)
+    × (coming : List DeclaratorRecord) × (left : ℕ)
+    × (rest : List ℕ) × (before : List NodeRecord)
+    × State file h (beside tb statements) p (holding low ks done bare rest)
+    (following (initializerTrees ds ts) (declaratorRecords ds ++ coming) left before)
+    × (length ds ≡ n)
 
--- the search of a tree from declarators
-abbrev pub FromDeclarators : Type 0
-FromDeclarators = Traced (Searched Tree Declarator)
-
--- the declarators of one declaration, before which these statements stand
-module _ (ctx : Context) (before : List Statement) (kind : DeclarationKind) where
-  -- the fold of a declarator's initializer into a tree, where these declarators stand before it, the last first
-  unfoldable pub foldOf : ℕ → Tree → List Declarator → Tree → Fold
-  foldOf name initializer earlier target =
-      record { name = name; initializer = initializer; into = target; before = before ++ (declaration kind (reverse earlier) ∷ []) }
-
-  -- by the answer: the search goes on with the declarators before if the initializer was placed, "replaced == Some(true)"
-  unfoldable pub afterAnswer : Declarator → Tree → List Declarator → Tree → Answer Tree → (Tree → FromDeclarators) → FromDeclarators
-  afterAnswer d initializer earlier target (replaced t) onward = folded (foldOf (d .name) initializer earlier target) (onward t)
-  afterAnswer d initializer earlier target (stopped t) onward = ended t (d ∷ earlier)
-  afterAnswer d initializer earlier target passed onward = ended target (d ∷ earlier)
-
-  -- a declarator, by its initializer
-  unfoldable pub fromDeclarator : Bool → Declarator → Initializer → List Declarator → Tree → (Tree → FromDeclarators) → FromDeclarators
-  fromDeclarator literalOnly d bare earlier target onward = ended target (d ∷ earlier)
-  fromDeclarator literalOnly d (given initializer) earlier target onward =
-      cond (endsSearch ctx literalOnly (d .name) initializer) (ended target (d ∷ earlier))
-      (looked (looksInExpression ctx (d .name) initializer target)
-      (afterAnswer d initializer earlier target (substituteInExpression ctx (d .name) initializer target) onward))
-
-  -- `substitute_single_use_symbol_in_expression_from_declarators`, the last declarator first
-  unfoldable pub substituteFromDeclarators : Bool → List Declarator → Tree → FromDeclarators
-  substituteFromDeclarators literalOnly [] target = ended target []
-  substituteFromDeclarators literalOnly (d ∷ earlier) target =
-      fromDeclarator literalOnly d (d .initializer) earlier target (λ t. substituteFromDeclarators literalOnly earlier t)
-
-  -- a declarator behind others, the last of them first: its initializer is searched, if it has one
-  unfoldable pub withinDeclarator : List Declarator → Declarator → Initializer → Traced (List Declarator)
-  withinDeclarator earlier d bare = pure (d ∷ earlier)
-  withinDeclarator earlier d (given initializer) = do
-    w ← substituteFromDeclarators false earlier initializer
-    pure (withTree d (w .target) ∷ w .left)
-
-  -- the declarators in order, behind those that are done
-  unfoldable pub withinDeclarators : List Declarator → List Declarator → Traced (List Declarator)
-  withinDeclarators earlier [] = pure (reverse earlier)
-  withinDeclarators earlier (d ∷ ds) = do
-    earlier′ ← withinDeclarator earlier d (d .initializer)
-    withinDeclarators earlier′ ds
-
-  -- `substitute_single_use_symbol_within_declaration`; before the first declarator stands none
-  unfoldable pub substituteWithinDeclaration : List Declarator → Traced (List Declarator)
-  substituteWithinDeclaration ds = cond (isUnsearched ctx || isUsing kind) (pure ds) (withinDeclarators [] ds)
+abbrev pub TakenAll : Context → Bool → List ℕ → Header → DeclaratorTables → DeclaratorTables → List ℕ → List ℕ → ℕ → ℕ
+    → Progress → Progress → Type 0
+TakenAll ctx searched file h tb tb′ folded folded′ low n p r =
+    (statements : List ℕ) (ks : List Kept) (done ds : List Declarator) (ts : Trees) (coming : List DeclaratorRecord) (left : ℕ)
+    (rest : List ℕ) (before : List NodeRecord)
+    → State file h (beside tb statements) p (holding low ks done bare rest)
+    (following (initializerTrees ds ts) (declaratorRecords ds ++ coming) left before)
+    → length ds ≡ n → (above : List Statement) (kind : DeclarationKind)
+    → (rest′ : List ℕ) × (before′ : List NodeRecord)
+    × State file h (beside tb′ statements) r
+    (holding low ks (laterDeclarators ctx above kind searched done ds .result) bare rest′)
+    (following ts coming left before′)
+    × Adds folded folded′ p r (laterDeclarators ctx above kind searched done ds)

@@ -1,5 +1,8 @@
--- The fold of a file: the search through declarators and statements, and what a file becomes by it.
-pub mod Trace
+-- The fold of a file's statements over lent tables.
+pub mod Pushed
+pub mod Added
+pub mod State
+pub mod Next
 pub mod Declarators
-pub mod Statements
-pub mod Fold
+pub mod Numbers
+pub mod Folds

@@ -1,8 +1,12 @@
--- Examples of the rules, by computation; the sizes of what a search leaves.
-pub mod Build
-pub mod Computed
-pub mod Facts
-pub mod Searches
-pub mod Tagged
-pub mod Sizes
-pub mod Looks
+-- Laws for the functions of the search.
+pub mod BareNames
+pub mod OtherAnswers
+pub mod ClearedFlags
+pub mod Putting
+pub mod OfForest
+pub mod OfNode
+pub mod Searching
+pub mod Leaves
+pub mod SmallTrees
+pub mod Rest
+pub mod Cycle

@@ -1,10 +1,4 @@
--- The rules of the search in an expression: which names and targets may change places with an initializer, and where the
--- initializer is placed.
-pub mod Context
-pub mod Unsettled
-pub mod This
-pub mod Shape
-pub mod Effect
-pub mod Target
-pub mod Substitute
-pub mod Looks
+-- What the search of a node does by that of its children, and what is left of a forest.
+pub mod Node
+pub mod Forests
+pub mod Small

@@ -1,5 +1,5 @@
 -- The numbers of the exported answer.
-use Rattle.fold.specs.Answer.{Numbers}
+use Rattle.statements_fold.specs.Answer.{Numbers}
 use Rattle.wsf.specs.declared.WsfAnswer.{WsfAnswer}
 
 abbrev pub answerNumbers : WsfAnswer → Numbers

@@ -2,11 +2,11 @@
 ghost use mathlib.Core.Path.{_≡_};
 ghost use lib.ListN.{length};
 ghost use Rattle.records.specs.Refusal.{refusal as refusalOf};
-ghost use Rattle.statements.specs.Fold.{foldBytes};
-ghost use Rattle.fold.specs.Answer.{numbersOf, laidOver};
+ghost use Rattle.statements_rules.specs.Fold.{foldBytes};
+ghost use Rattle.statements_fold.specs.Answer.{numbersOf, laidOver};
 ghost use Rattle.wsf.specs.Answer.{answerNumbers};
-use fold::Folded;
-use fold::fold;
+use statements_fold::FoldAnswer;
+use statements_fold::fold;
 
 // The number of document 01's table that refuses the file, 0 where none does; the result's length; the declarators folded.
 #[repr(C)]
@@ -20,18 +20,20 @@ pub struct WsfAnswer {
 // it is with every byte past the result.
 #[no_mangle]
 pub extern "C" fn wsf_fold(file: &[u8], output: &mut [u8]) -> WsfAnswer
-    ensures { λ r. ⌜ answerNumbers r ≡ numbersOf (foldBytes (now (file .entry)) (length (now (output .entry)))) ⌝ }
-    ensures { λ _. ⌜ now (output .exit) ≡ laidOver (foldBytes (now (file .entry)) (length (now (output .entry)))) (now (output .entry)) ⌝ }
-    ensures { λ _. ⌜ (refusalOf (now (file .entry)) (length (now (output .entry))) ≡ 0 → refusalOf (foldBytes (now (file .entry)) (length (now (output .entry))) .result) (length (now (output .entry))) ≡ 0) ⌝ }
+    ensures numbers { λ r. ⌜ answerNumbers r ≡ numbersOf (foldBytes (now (file .entry)) (length (now (output .entry)))) ⌝ }
+    ensures output { λ _. ⌜ now (output .exit)
+        ≡ laidOver (foldBytes (now (file .entry)) (length (now (output .entry)))) (now (output .entry)) ⌝ }
+    ensures accepted { λ _. ⌜ (refusalOf (now (file .entry)) (length (now (output .entry))) ≡ 0
+        → refusalOf (foldBytes (now (file .entry)) (length (now (output .entry))) .result) (length (now (output .entry))) ≡ 0) ⌝ }
 {
     let answer = fold(file, output);
     match answer {
-        Folded::Refused(number) => WsfAnswer {
+        FoldAnswer::Refused(number) => WsfAnswer {
             number: number as u64,
             length: 0,
             folds: 0,
         },
-        Folded::Written(length, folds) => WsfAnswer {
+        FoldAnswer::Written(length, folds) => WsfAnswer {
             number: 0,
             length: length as u64,
             folds: folds as u64,

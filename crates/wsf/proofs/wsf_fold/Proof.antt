@@ -1,6 +1,6 @@
 -- `wsf::wsf_fold` meets its contract. Assumes nothing.
 use mathlib.Core.Path.{ap, sym, _∙_}
-use Rattle.fold.specs.Answer.{numbers}
+use Rattle.statements_fold.specs.Answer.{numbers}
 use borrow.Author.Needs.{needs}
 use Rattle.wsf.proofs.wsf_fold.Statement.{statement}
 use Rattle.wsf.proofs.wsf_fold.Tie as tie

@@ -31,8 +31,8 @@ add-declarator-at c = omega arith
 declarator-at-requires : tie.Need-declarator-at-requires Inv-loop μ-loop
 declarator-at-requires c κs = omega arith
 
-flags-of-requires : tie.Need-flags-of-requires Inv-loop μ-loop
-flags-of-requires c κs = omega arith
+facts-of-requires : tie.Need-facts-of-requires Inv-loop μ-loop
+facts-of-requires c κs = omega arith
 
 declarator-is-good-requires : tie.Need-declarator-is-good-requires Inv-loop μ-loop
 declarator-is-good-requires c κs = tt
@@ -52,7 +52,7 @@ loop-less c = omega arith
 loop-again : tie.Need-loop-again Inv-loop μ-loop
 unfolding initializers
 loop-again c = (
-  passed-more ((c .before .before .before .before .declarator-at) .result) ((c .before .before .declarator-is-good) .result) ((c .before .before .before .before .before .before .loop) .inv .0) ((c .before .before .before .before .before .loop-test) .taken) ((c .before .before .before .before .declarator-at) .ensures) (declarator-judged _ _ _ ((c .before .before .before .before .declarator-at) .result) ((c .before .before .before .flags-of) .ensures) ((c .before .before .declarator-is-good) .ensures)),
+  passed-more ((c .before .before .before .before .declarator-at) .result) ((c .before .before .declarator-is-good) .result) ((c .before .before .before .before .before .before .loop) .inv .0) ((c .before .before .before .before .before .loop-test) .taken) ((c .before .before .before .before .declarator-at) .ensures) (declarator-judged _ _ _ ((c .before .before .before .before .declarator-at) .result) ((c .before .before .before .facts-of) .ensures) ((c .before .before .declarator-is-good) .ensures)),
   summed-more (λ (d : DeclaratorRecord). one (eqb (d .present) 1)) ((c .before .before .before .before .declarator-at) .result) ((c .one) .result) (λ y ys. refl) ((c .before .before .before .before .before .before .loop) .inv .1) ((c .before .before .before .before .before .loop-test) .taken) ((c .before .before .before .before .declarator-at) .ensures) ((c .one) .ensures .0),
   omega (arith, (c .before .before .before .before .before .before .loop) .inv .2, (c .one) .ensures .1),
 )
@@ -71,7 +71,7 @@ declarator-totals-spec =
     mul-declarator-at
     add-declarator-at
     declarator-at-requires
-    flags-of-requires
+    facts-of-requires
     declarator-is-good-requires
     one-requires
     add-with-tree

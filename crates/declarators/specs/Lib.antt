@@ -1,3 +1,0 @@
--- What the search of declarators asks before it searches.
-pub mod Cases
-pub mod Ends

@@ -1,3 +1,0 @@
--- The laws that the proofs of several functions cite.
-pub mod Known
-pub mod Climbing

@@ -1,0 +1,43 @@
+// What is counted over all entries.
+use crate::returned::Returned;
+use records::number::one;
+
+pub struct Totals {
+    accepted: usize,
+    folds: usize,
+    bytes: usize,
+}
+
+// The sum, if it is a number that fits.
+fn sum(a: usize, b: usize) -> usize {
+    if b <= 18446744073709551615 - a {
+        a + b
+    } else {
+        a
+    }
+}
+
+impl Totals {
+    pub fn new() -> Self {
+        Self {
+            accepted: 0,
+            folds: 0,
+            bytes: 0,
+        }
+    }
+
+    pub fn with(self, r: Returned) -> Self {
+        Self {
+            accepted: sum(self.accepted, one(r.number == 0)),
+            folds: sum(self.folds, r.folds),
+            bytes: sum(self.bytes, r.length),
+        }
+    }
+
+    pub fn print(self) {
+        program_lines::put(b" accepted ", self.accepted);
+        program_lines::put(b" folds ", self.folds);
+        program_lines::put(b" bytes ", self.bytes);
+        program_lines::end(b"");
+    }
+}

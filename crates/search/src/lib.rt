@@ -1,4 +1,0 @@
-// The search of a tree from the declarators and from the statements before it.
-pub mod declarator;
-pub mod from_declarators;
-pub mod in_statement;

@@ -1,4 +1,0 @@
--- How the initializer of a name gets to the name's place in the work table.
-pub mod Blocks
-pub mod Copies
-pub mod Splice

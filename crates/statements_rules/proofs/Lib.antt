@@ -1,0 +1,7 @@
+-- The twelve scripts of document 01 and some answers of the Rust, by computation; laws of the numbers of nodes, declarators
+-- and statements.
+pub mod Computed
+pub mod Scripts
+pub mod Answers
+pub mod Totals
+pub mod Lengths

@@ -1,0 +1,9 @@
+-- What is asked of a declarator before a search; declarators and statements in the work table, and the search of a tree from
+-- them.
+pub mod Cases
+pub mod Ends
+pub mod Kept
+pub mod Try
+pub mod FromDeclarators
+pub mod KeptStatements
+pub mod InStatement

@@ -1,3 +1,0 @@
--- What is counted for each name.
-pub mod Tally
-pub mod Counting

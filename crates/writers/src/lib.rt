@@ -1,4 +1,0 @@
-// The writers of a record file.
-pub mod number;
-pub mod put;
-pub mod record_bytes;
