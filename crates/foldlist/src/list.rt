@@ -1,7 +1,6 @@
 // The lines for a result, which stands at the start of `output`.
 ghost use Prim.Native.Nat.{_+_, _*_, _≤_};
 ghost use lib.ListN.{length};
-use records::header::part_offsets;
 use records::kinds::EXPRESSION_STATEMENT;
 use records::layout::Header;
 use records::layout::StatementRecord;
@@ -15,6 +14,7 @@ use records::limits::NODE_LENGTH;
 use records::limits::STATEMENT_LENGTH;
 use records::number::one;
 use records::number::size;
+use records::parts::part_offsets;
 
 // How many of the `count` declarators from `at` on have an initializer.
 fn initializers(output: &[u8], at: usize, count: usize) -> usize

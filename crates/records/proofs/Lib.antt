@@ -4,5 +4,4 @@ pub mod Sets
 pub mod Series
 pub mod Behind
 pub mod Names
-pub mod Judged
 pub mod Putting

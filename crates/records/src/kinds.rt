@@ -1,4 +1,7 @@
 // The kinds of nodes and of statements, and the label by which the fold knows a `delete`.
+ghost use mathlib.Core.Path.{_≡_};
+ghost use Rattle.records.specs.Place.{isExpression};
+
 pub const OTHER: u8 = 0;
 
 pub const LITERAL: u8 = 1;
@@ -78,3 +81,10 @@ pub const AWAIT_USING: u8 = 4;
 pub const EXPRESSION_STATEMENT: u8 = 5;
 
 pub const OTHER_STATEMENT: u8 = 6;
+
+// Whether nodes of a kind are expressions.
+pub fn is_expression(kind: u16) -> bool
+    ensures result { λ r. ⌜ r ≡ isExpression kind ⌝ }
+{
+    (kind < SPREAD as u16) | (kind == SEQUENCE as u16)
+}

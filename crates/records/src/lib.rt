@@ -1,14 +1,12 @@
-// The record file: its numbers and records, read and written, and rows 1 to 7 of the refusal table, record by record.
+// The record file: its kinds, flags and limits; its numbers and records, read and written; where its parts begin.
 pub mod facts;
 pub mod flags;
-pub mod header;
 pub mod kinds;
 pub mod layout;
 pub mod limits;
-pub mod node;
 pub mod number;
+pub mod parts;
 pub mod put;
 pub mod put_number;
 pub mod record_bytes;
-pub mod script;
 pub mod set;

@@ -22,7 +22,7 @@ use Rattle.records.specs.declared.layout.NameFacts.{NameFacts}
 use Rattle.records.specs.declared.layout.NodeRecord.{NodeRecord}
 use Rattle.records.proofs.Tests.{and-left, one-most, every-cons, every-append}
 use Rattle.records.proofs.Behind.{one-more, all-left}
-use Rattle.records.proofs.Judged.{good-low, good-unnamed, good-compound}
+use Rattle.records_tests.proofs.Judged.{good-low, good-unnamed, good-compound}
 use Rattle.records_laws.proofs.Series.{recordsFrom-add}
 use Rattle.records_rows.specs.Stack.{childrenStand, nodeEntry, entry, entries, Low}
 use Rattle.records_rows.proofs.Forests.{grown-good}

@@ -15,14 +15,14 @@ use crate::file_rows::room_is_short;
 use crate::file_rows::statement_row;
 use crate::outcome::Refusal;
 use crate::outcome::number_of;
-use records::header::not_a_record_file;
-use records::header::other_length;
-use records::header::other_version;
-use records::header::outside_limits;
 use records::layout::Header;
 use records::layout::header_of;
 use records::limits::MAX_NAMES;
 use records::limits::MAX_NODES;
+use records_tests::header::not_a_record_file;
+use records_tests::header::other_length;
+use records_tests::header::other_version;
+use records_tests::header::outside_limits;
 
 // Rows 5 to 11, over a stack with a place for each node and arrays with one for each name.
 fn check(

@@ -18,18 +18,18 @@ ghost use Rattle.records.specs.Refusal.{roomWanted};
 ghost use Rattle.records_rows.specs.Tally.{Tally, fits};
 ghost use Rattle.records_refusal.specs.Passing.{HeaderPasses};
 use crate::scan::scan_nodes;
-use records::facts::frames_are_good;
-use records::facts::names_are_good;
-use records::facts::scopes_are_good;
-use records::header::part_offsets;
 use records::layout::Header;
 use records::limits::ROOM_PER_DECLARATOR;
 use records::number::size;
-use records::script::declarator_totals;
-use records::script::statement_totals;
+use records::parts::part_offsets;
 use records_rows::count::counts_are_good;
 use records_rows::declared::declared_twice;
 use records_rows::place::roots_stand;
+use records_tests::facts::frames_are_good;
+use records_tests::facts::names_are_good;
+use records_tests::facts::scopes_are_good;
+use records_tests::script::declarator_totals;
+use records_tests::script::statement_totals;
 
 // Row 5.
 pub fn facts_are_bad(file: &[u8], h: Header) -> bool

@@ -10,18 +10,18 @@ ghost use Rattle.records.specs.Node.{goodNode};
 ghost use Rattle.records_rows.specs.Tally.{Tally};
 ghost use Rattle.records_refusal.specs.Passing.{HeaderPasses};
 ghost use Rattle.records_refusal.specs.Scanning.{goodFirst, goodTrees, Few, Taken};
-use records::header::part_offsets;
 use records::layout::Header;
 use records::layout::node_at;
 use records::limits::NODE_LENGTH;
-use records::node::FEWEST;
-use records::node::MOST;
-use records::node::node_is_good;
 use records::number::size;
+use records::parts::part_offsets;
 use records_rows::count::count_uses;
 use records_rows::place::standing_sets;
 use records_rows::tree::node_entry;
 use records_rows::tree::node_stands;
+use records_tests::node::FEWEST;
+use records_tests::node::MOST;
+use records_tests::node::node_is_good;
 
 // Where a pass ended: whether it met no node that is bad by itself, whether it took all nodes, where on the stack the entries
 // of the trees begin, and how many nodes are left.

@@ -14,12 +14,12 @@ ghost use Rattle.records_result.specs.Header.{tablesLength, resultHeader
 ghost use Rattle.records_result.specs.Result.{Hold, PutsResult};
 use crate::header::Counts;
 use crate::header::result_header;
-use records::header::part_offsets;
 use records::layout::Header;
 use records::limits::DECLARATOR_LENGTH;
 use records::limits::HEADER_LENGTH;
 use records::limits::NODE_LENGTH;
 use records::limits::STATEMENT_LENGTH;
+use records::parts::part_offsets;
 use records::put::put_copy;
 use records::put::put_header;
 use records_table::put_nodes;

@@ -10,7 +10,7 @@ use records::kinds::CALL;
 use records::kinds::COMPUTED_MEMBER;
 use records::kinds::PRIVATE_MEMBER;
 use records::kinds::STATIC_MEMBER;
-use records::node::is_expression;
+use records::kinds::is_expression;
 use records::set::has_bit;
 
 pub fn is_chain_element(kind: u16) -> bool

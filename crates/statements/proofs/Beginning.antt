@@ -22,7 +22,7 @@ use Rattle.statements_search.proofs.BareNames.{accepted-bare}
 use Rattle.records_table.proofs.FileForest.{all-trees}
 use Rattle.statements_search.specs.Kept.{laidInitializer, nodeCount as nodesGiven, bareInitializer, laidDeclarators, nodesIn, bareDeclarators, Held}
 use Rattle.statements_search.specs.KeptStatements.{laidKept, nodesKept, declaratorsKept, bareKept, HeldKept, tables}
-use Rattle.statements.specs.declared.progress.Progress.{Progress}
+use Rattle.statements_progress.specs.declared.progress.Progress.{Progress}
 use Rattle.statements.specs.State.{Holds, StandingRecords, Coming, holding}
 use Rattle.statements.specs.Folds.{Taking}
 

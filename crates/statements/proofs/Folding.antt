@@ -16,8 +16,8 @@ use Rattle.walk_rules.specs.Context.{Context}
 use Rattle.statements_rules.specs.Trace.{pure, _>>=_}
 use Rattle.statements_rules.specs.Declarators.{isUnsearched, isUsing}
 use Rattle.statements_rules.specs.Statements.{Kept, inFileOrder, substituteInStatement, inInitializer, inFirstDeclarator, foldStatement}
-use Rattle.statements.specs.declared.progress.Progress.{Progress}
-use Rattle.statements.specs.Pushed.{StatementPushed, statementPast}
+use Rattle.statements_progress.specs.declared.progress.Progress.{Progress}
+use Rattle.statements_progress.specs.Pushed.{StatementPushed, statementPast}
 use Rattle.statements.specs.Added.{Adds}
 use Rattle.statements.specs.State.{State, holding, following, declaratorTables}
 use Rattle.statements.specs.Next.{CanTakeNext, SearchedFromStatements}

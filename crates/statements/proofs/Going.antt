@@ -14,17 +14,19 @@ use Rattle.records.specs.declared.layout.DeclaratorRecord.{DeclaratorRecord}
 use Rattle.walk_rules.specs.Context.{Context}
 use Rattle.statements_rules.specs.Trace.{Traced, pure, _>>=_}
 use Rattle.statements_rules.specs.Statements.{Kept, substituteInStatement, inFirstDeclarator}
-use Rattle.statements.specs.declared.progress.Progress.{Progress}
-use Rattle.statements.specs.Pushed.{DeclaratorPushed, declaratorPast}
+use Rattle.statements_progress.specs.declared.progress.Progress.{Progress}
+use Rattle.statements_progress.specs.Pushed.{DeclaratorPushed, declaratorPast}
 use Rattle.records_table.specs.Overwrites.{Overwrites}
 use Rattle.statements_search.specs.declared.from_declarators.Searched.{Searched}
 use Rattle.statements_search.specs.declared.in_statement.InStatement.{InStatement}
-use Rattle.statements_search.specs.Kept.{namesFrom, mostInUse}
+use Rattle.statements_search.specs.Kept.{mostInUse}
+use Rattle.statements_progress.specs.Listed.{namesFrom}
 use Rattle.statements_search.specs.FromDeclarators.{CanSearch, SearchesFrom}
 use Rattle.statements_search.specs.InStatement.{CanSearchStatements, SearchesStatements}
 use Rattle.statements.specs.Added.{Adds}
 use Rattle.statements.specs.State.{mostNodes, mostLooks, Long, State, holding, following, declaratorTables}
-use Rattle.statements.specs.Next.{HasTree, Loaded, CanTakeNext, SearchedFromStatements}
+use Rattle.statements_progress.specs.Loaded.{HasTree, Loaded}
+use Rattle.statements.specs.Next.{CanTakeNext, SearchedFromStatements}
 use Rattle.statements.specs.Declarators.{recordFor, CanTakeFirst, TakenFirst, laterTree, CanTakeLaterTree, TakenLaterTree, laterDeclarator, laterDeclarators, CanTakeLater, TakenLater, CanTakeAll, TakenAll}
 use Rattle.statements.proofs.Adding.{adds-none, adds-as, adds-then}
 use Rattle.statements.proofs.Taken.{next-loaded, next-searched, next-folded, next-added, later-folded, later-left, record-is, given-tree, no-tree, push-given, push-bare, push-room}

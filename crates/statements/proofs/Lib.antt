@@ -1,5 +1,4 @@
 -- Laws of the tables while the statements of a file are taken.
-pub mod Writes
 pub mod Adding
 pub mod Numbers
 pub mod Pushes

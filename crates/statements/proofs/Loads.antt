@@ -19,9 +19,9 @@ use Rattle.statements_search.proofs.KeptRecords.{kept-split, kept-length}
 use Rattle.statements_search.proofs.Going.{declarators-split, declarators-length}
 use Rattle.records_table.specs.Loads.{FileTree}
 use Rattle.records_table.proofs.FileForest.{first, beyond}
-use Rattle.statements.specs.declared.progress.Progress.{Progress}
+use Rattle.statements_progress.specs.declared.progress.Progress.{Progress}
 use Rattle.statements.specs.State.{mostNodes, Holds, State, holding, following}
-use Rattle.statements.specs.Next.{HasTree, treePast, Loaded}
+use Rattle.statements_progress.specs.Loaded.{HasTree, treePast, Loaded}
 
 -- the bytes of what is kept, before others
 abbrev keptBytes : List Kept → List Declarator → List ℕ

@@ -17,8 +17,8 @@ use Rattle.statements_rules.specs.Statements.{Kept}
 use Rattle.statements_search.specs.Kept.{laidInitializer, nodeCount, bareInitializer, laidDeclarators, nodesIn, bareDeclarators, Held}
 use Rattle.statements_search.specs.KeptStatements.{laidStatement, nodesOfStatement, bareStatement, laidKept, nodesKept, declaratorsKept, bareKept, HeldKept, tables}
 use Rattle.statements_search.proofs.KeptRecords.{held-same}
-use Rattle.statements.specs.declared.progress.Progress.{Progress}
-use Rattle.statements.specs.Pushed.{DeclaratorPushed, StatementPushed, declaratorPast, statementPast}
+use Rattle.statements_progress.specs.declared.progress.Progress.{Progress}
+use Rattle.statements_progress.specs.Pushed.{DeclaratorPushed, StatementPushed, declaratorPast, statementPast}
 use Rattle.statements.specs.State.{Holds, StandingRecords, State, holding, following}
 use Rattle.statements.specs.Declarators.{recordFor}
 

@@ -22,7 +22,8 @@ use Rattle.statements_rules.specs.Statements.{Kept, substituteInStatement}
 use Rattle.statements_rules.proofs.Totals.{from-declarators, in-statement}
 use Rattle.statements_search.specs.declared.from_declarators.Searched.{Searched}
 use Rattle.statements_search.specs.declared.in_statement.InStatement.{InStatement}
-use Rattle.statements_search.specs.Kept.{laidInitializer, nodeCount, bareInitializer, laidDeclarators, nodesIn, bareDeclarators, Held, namesFrom, foldedNames}
+use Rattle.statements_search.specs.Kept.{laidInitializer, nodeCount, bareInitializer, laidDeclarators, nodesIn, bareDeclarators, Held, foldedNames}
+use Rattle.statements_progress.specs.Listed.{namesFrom}
 use Rattle.statements_search.specs.KeptStatements.{laidKept, nodesKept, KeepsBefore, tables}
 use Rattle.statements_search.specs.FromDeclarators.{StandingDeclarators, CanSearch, SearchesFrom}
 use Rattle.statements_search.specs.InStatement.{CanSearchStatements, SearchesStatements}
@@ -30,7 +31,7 @@ use Rattle.statements_search.proofs.KeptRecords.{kept-split, kept-length, kept-
 use Rattle.statements_search.proofs.Going.{nodes-in}
 use Rattle.statements_search.proofs.Looks.{declarators-looks, in-statement-looks}
 use Rattle.statements_search.proofs.InStatements.{left-have, held-shorter}
-use Rattle.statements.specs.declared.progress.Progress.{Progress}
+use Rattle.statements_progress.specs.declared.progress.Progress.{Progress}
 use Rattle.statements.specs.Added.{Adds}
 use Rattle.statements.specs.State.{mostNodes, mostLooks, State, holding, following}
 

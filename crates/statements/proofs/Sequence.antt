@@ -16,7 +16,7 @@ use Rattle.statements_rules.specs.Statements.{Kept, statementOf, foldStatement,
 use Rattle.statements_rules.specs.Fold.{foldFile, foldedFile, withStatements}
 use Rattle.statements_search.specs.Kept.{laidInitializer, nodeCount, laidDeclarators, nodesIn, foldedNames}
 use Rattle.statements_search.specs.KeptStatements.{declaratorsKept, tables}
-use Rattle.statements.specs.declared.progress.Progress.{Progress}
+use Rattle.statements_progress.specs.declared.progress.Progress.{Progress}
 use Rattle.statements.specs.Added.{Adds}
 use Rattle.statements.specs.Numbers.{Numbered}
 use Rattle.statements.specs.State.{Long, StandingRecords}
@@ -123,7 +123,7 @@ module _ (file : List ℕ) (h : Header) where
             count = rw e (a .stated ∙ statements-counted records starts statements ks (a .kept));
             folds = omega (arith, w .folds);
             names = written-first folded₀ folded (foldedNames (whole .trace)) (w .names) (omega (arith, n, m .declared, l₅)) ∙ ap (λ (k : ℕ). foldedNames (whole .trace) ++ drop k folded₀) (sym n);
-            numbers = ap (λ (k : ℕ). take k kept) (a .stated) ∙ numbers-are kept ks (omega (arith, a .stated, m .stated, l₆)) (o .numbers) ∙ ap (map (λ k. k .number)) (sym (o .result-is));
+            numbers = _∙_ {c = map (λ k. k .number) (whole .result)} (ap (λ (k : ℕ). take k kept) (a .stated) ∙ numbers-are kept ks (omega (arith, a .stated, m .stated, l₆)) (o .numbers)) (ap (map (λ k. k .number)) (sym (o .result-is)));
             looks = omega (arith, w .looks);
           },
         )

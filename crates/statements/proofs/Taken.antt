@@ -4,11 +4,10 @@ use mathlib.Core.Path.{_≡_, refl, sym, ap, subst, _∙_}
 use mathlib.Core.List.{List, [], _∷_, _++_}
 use Prim.Native.Nat.{ℕ, _+_, _-_, _*_, _≤_, _<_}
 use native.Mathlib.Omega.{arith}
-use lib.ListN.{length, take, drop, take-append-drop}
-use lib.Seq.{length-take-le}
+use lib.ListN.{drop}
 use Rattle.records.specs.Record.{declaratorAt}
 use Rattle.records.specs.Tree.{Tree, Trees, node, more, size, sizes, preorder}
-use Rattle.records.specs.File.{DeclarationKind, Initializer, bare, given, isGiven, Declarator, Statement, initializerTree, nodesStart, declaratorsStart}
+use Rattle.records.specs.File.{DeclarationKind, Initializer, bare, given, isGiven, Declarator, Statement, initializerTree, declaratorsStart}
 use Rattle.records.specs.declared.layout.Header.{Header}
 use Rattle.records.specs.declared.layout.NodeRecord.{NodeRecord}
 use Rattle.records.specs.declared.layout.DeclaratorRecord.{DeclaratorRecord}
@@ -17,41 +16,22 @@ use Rattle.statements_rules.specs.Trace.{pure}
 use Rattle.statements_rules.specs.Declarators.{ended, withTree, substituteFromDeclarators}
 use Rattle.statements_rules.specs.Statements.{Kept, substituteInStatement}
 use Rattle.records_table.specs.Overwrites.{Overwrites}
-use Rattle.records_table.specs.Loads.{FileTree, HasRoom, Loads}
-use Rattle.records_table.proofs.FileForest.{tree-room}
 use Rattle.statements_search.specs.declared.from_declarators.Searched.{Searched}
 use Rattle.statements_search.specs.declared.in_statement.InStatement.{InStatement}
-use Rattle.statements_search.specs.Kept.{namesFrom}
+use Rattle.statements_progress.specs.Listed.{namesFrom}
 use Rattle.statements_search.specs.FromDeclarators.{SearchesFrom}
 use Rattle.statements_search.specs.InStatement.{SearchesStatements}
-use Rattle.statements.specs.declared.progress.Progress.{Progress}
-use Rattle.statements.specs.Pushed.{DeclaratorPushed, declaratorPast}
+use Rattle.statements_progress.specs.declared.progress.Progress.{Progress}
+use Rattle.statements_progress.specs.Pushed.{DeclaratorPushed, declaratorPast}
 use Rattle.statements.specs.Added.{Adds}
 use Rattle.statements.specs.State.{State, holding, following}
-use Rattle.statements.specs.Next.{HasTree, treePast, Loaded}
+use Rattle.statements_progress.specs.Loaded.{Loaded}
 use Rattle.statements.specs.Declarators.{recordFor, laterTree}
 use Rattle.statements.proofs.Adding.{adds-none, adds-from}
 use Rattle.statements.proofs.Pushes.{first-record, declarator-state}
 use Rattle.statements.proofs.Loads.{progress-is, loaded-state}
 use Rattle.statements.proofs.Searches.{searchedPast, LooksLeft, folded-statements, searched-statements, added-statements, folded-declarators, searched-declarators, added-declarators}
 use Rattle.statements_search.specs.KeptStatements.{tables}
-
--- The next tree, where the first node of the file is found in the part table.
-module _ (file : List ℕ) (h : Header) (nodes : List ℕ) (p : Progress) (from : ℕ) (e : from ≡ nodesStart h) where
-  pub tree-there : HasTree file h nodes p → HasRoom file from (p .«nodes_read») nodes (p .«nodes_used»)
-  tree-there a = subst (λ (k : ℕ). HasRoom file k (p .«nodes_read») nodes (p .«nodes_used»)) (sym e) a
-
-  pub loads-next : (nodes′ : List ℕ) (many : ℕ) → Loads file from (p .«nodes_read») nodes nodes′ (p .«nodes_used») many → (r : Progress) → r ≡ treePast p many → Loaded file h nodes nodes′ p r
-  loads-next nodes′ many l r er t total before behind f pre rest is long =
-      let (x, y) = l t total before behind (subst (λ (k : ℕ). FileTree file k (p .«nodes_read») t total before behind) (sym e) f) pre rest is long in
-      (er ∙ ap (treePast p) x, y)
-
-  pub load-fits : (nodes′ : List ℕ) (many : ℕ) → HasTree file h nodes p → Loads file from (p .«nodes_read») nodes nodes′ (p .«nodes_used») many → (p .«nodes_used» + many ≤ length nodes) × (p .«nodes_read» + many ≤ length file)
-  load-fits nodes′ many (t, total, before, behind, f, room) l =
-      let f′ = subst (λ (k : ℕ). FileTree file k (p .«nodes_read») t total before behind) (sym e) f in
-      let at = 16 * p .«nodes_used» in
-      let m = l t total before behind f′ (take at nodes) (drop at nodes) (sym (take-append-drop at nodes)) (length-take-le at nodes (omega (arith, room))) .0 in
-      (omega (arith, room, m), omega (arith, tree-room f, m))
 
 -- a tree has a node
 one-node : (t : Tree) → 1 ≤ size t

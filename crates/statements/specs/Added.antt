@@ -6,7 +6,7 @@ use lib.ListN.{length}
 use Rattle.records_table.specs.Overwrites.{Overwrites}
 use Rattle.statements_rules.specs.Trace.{Traced}
 use Rattle.statements_search.specs.Kept.{foldedNames}
-use Rattle.statements.specs.declared.progress.Progress.{Progress}
+use Rattle.statements_progress.specs.declared.progress.Progress.{Progress}
 
 pub record Adds {A : Type 0} (folded folded′ : List ℕ) (p r : Progress) (w : Traced A) : Type 0 where
   pub folds : r .folds ≡ p .folds + length (w .trace)

@@ -14,7 +14,7 @@ use Rattle.statements_rules.specs.Trace.{Traced, pure, _>>=_}
 use Rattle.statements_rules.specs.Declarators.{FromDeclarators, ended, substituteFromDeclarators, withinDeclarator}
 use Rattle.statements_rules.specs.Statements.{Kept, inFirstDeclarator}
 use Rattle.statements_search.specs.KeptStatements.{Tables}
-use Rattle.statements.specs.declared.progress.Progress.{Progress}
+use Rattle.statements_progress.specs.declared.progress.Progress.{Progress}
 use Rattle.statements.specs.Added.{Adds}
 use Rattle.statements.specs.State.{DeclaratorTables, beside, State, holding, following}
 

@@ -17,7 +17,7 @@ use Rattle.statements_rules.specs.Statements.{Kept, foldStatement}
 use Rattle.statements_rules.specs.Fold.{foldFile}
 use Rattle.statements_search.specs.Kept.{foldedNames}
 use Rattle.statements_search.specs.KeptStatements.{Tables}
-use Rattle.statements.specs.declared.progress.Progress.{Progress}
+use Rattle.statements_progress.specs.declared.progress.Progress.{Progress}
 use Rattle.statements.specs.declared.in_order.Totals.{Totals}
 use Rattle.statements.specs.Added.{Adds}
 use Rattle.statements.specs.State.{State, holding, following}

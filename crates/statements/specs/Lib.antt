@@ -1,5 +1,4 @@
 -- The fold of a file's statements over lent tables.
-pub mod Pushed
 pub mod Added
 pub mod State
 pub mod Next

@@ -16,7 +16,7 @@ use Rattle.statements_rules.specs.Statements.{Kept}
 use Rattle.statements_search.specs.Kept.{laidInitializer, nodeCount, bareInitializer, laidDeclarators, nodesIn, bareDeclarators, Held, mostInUse}
 use Rattle.statements_search.specs.KeptStatements.{Tables, tables, laidKept, nodesKept, declaratorsKept, bareKept, HeldKept}
 use Rattle.records_table.specs.Loads.{FileForest}
-use Rattle.statements.specs.declared.progress.Progress.{Progress}
+use Rattle.statements_progress.specs.declared.progress.Progress.{Progress}
 
 -- the tables that the search within a declaration uses; and with the statements beside them
 pub record DeclaratorTables : Type 0 where

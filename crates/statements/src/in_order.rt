@@ -5,14 +5,14 @@ ghost use Rattle.records.specs.File.{IsHeaderOf};
 ghost use Rattle.statements.specs.State.{Long};
 ghost use Rattle.statements.specs.Folds.{Accepted, FoldsAll};
 ghost use Rattle.statements_search.specs.KeptStatements.{tables};
-use crate::progress::Progress;
 use crate::statement::fold_statement;
-use records::header::part_offsets;
 use records::layout::Header;
 use records::layout::NodeId;
 use records::layout::statement_at;
 use records::limits::STATEMENT_LENGTH;
 use records::number::size;
+use records::parts::part_offsets;
+use statements_progress::progress::Progress;
 
 // How many nodes are in use, how many declarators and statements are kept, the folds and the looks.
 pub struct Totals {

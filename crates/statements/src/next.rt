@@ -1,53 +1,17 @@
-// The next declarator and the next tree of the file; the searches at src/peephole/minimize_statements.rs 224 and 288-293.
-ghost use mathlib.Core.Path.{_≡_};
-ghost use Prim.Native.Nat.{_+_, _*_, _≤_};
-ghost use lib.ListN.{length};
-ghost use Rattle.records.specs.Record.{declaratorAt};
-ghost use Rattle.records.specs.File.{read, declaratorsStart, IsHeaderOf};
+// The next tree of the file, searched from the statements that are kept: src/peephole/minimize_statements.rs 224 and 288-293.
+ghost use Rattle.records.specs.File.{read, IsHeaderOf};
 ghost use Rattle.walk_rules.specs.Context.{contextOf};
 ghost use Rattle.statements.specs.State.{Long};
-ghost use Rattle.statements.specs.Next.{CanTakeNext, Loaded, SearchedFromStatements, HasTree};
+ghost use Rattle.statements.specs.Next.{CanTakeNext, SearchedFromStatements};
 ghost use Rattle.statements_search.specs.KeptStatements.{tables};
-use crate::folded::list_folded;
-use crate::progress::Progress;
-use records::header::part_offsets;
-use records::layout::DeclaratorRecord;
 use records::layout::Header;
-use records::layout::NodeId;
-use records::layout::declarator_at;
-use records::limits::DECLARATOR_LENGTH;
-use records_table::load::load_tree;
+use statements_progress::folded::list_folded;
+use statements_progress::next::load_next;
+use statements_progress::progress::Progress;
 use statements_search::from_declarators::SearchedTree;
 use statements_search::in_statement::substitute_single_use_symbol_in_statement;
 
-pub(crate) fn next_declarator(file: &[u8], h: Header, p: Progress) -> DeclaratorRecord
-    requires room { ⌜ declaratorsStart h + 4 * p .«declarators_read» + 4 ≤ length (now file) ⌝ }
-    ensures result { λ r. ⌜ r ≡ declaratorAt (now (file .entry)) (declaratorsStart h + 4 * p .«declarators_read») ⌝ }
-{
-    let parts = part_offsets(h);
-    declarator_at(file, parts[4] + DECLARATOR_LENGTH * p.declarators_read)
-}
-
-// Loads the next tree of the file behind the nodes that are in use.
-pub(crate) fn load_next(file: &[u8], h: Header, nodes: &mut [u8], p: Progress) -> Progress
-    requires tree { ⌜ HasTree (now file) h (now nodes) p ⌝ }
-    ensures loaded { λ r. ⌜ Loaded (now (file .entry)) h (now (nodes .entry)) (now (nodes .exit)) p r ⌝ }
-{
-    let parts = part_offsets(h);
-    let size = load_tree(file, parts[3], NodeId(p.nodes_read), nodes, p.nodes_used);
-    Progress {
-        tree: NodeId(p.nodes_used),
-        nodes_used: p.nodes_used + size,
-        declarators_kept: p.declarators_kept,
-        statements_kept: p.statements_kept,
-        folds: p.folds,
-        looks: p.looks,
-        nodes_read: p.nodes_read + size,
-        declarators_read: p.declarators_read,
-    }
-}
-
-// Loads that tree, and searches it from the statements that are kept.
+// Loads the next tree, and searches it from the statements that are kept.
 pub(crate) fn substitute_in_next_tree(
     file: &[u8],
     h: Header,

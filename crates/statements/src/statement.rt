@@ -8,12 +8,12 @@ ghost use Rattle.statements.specs.Folds.{CanFold, Folds};
 ghost use Rattle.statements_search.specs.KeptStatements.{tables};
 use crate::declaration::handle_variable_declaration;
 use crate::next::substitute_in_next_tree;
-use crate::progress::Progress;
-use crate::push::push_statement;
 use records::kinds::EXPRESSION_STATEMENT;
 use records::kinds::OTHER_STATEMENT;
 use records::layout::Header;
 use records::layout::StatementRecord;
+use statements_progress::progress::Progress;
+use statements_progress::push::push_statement;
 
 fn handle_expression_statement(
     file: &[u8],

@@ -1,17 +1,15 @@
 // The declarators of a declaration behind the first, each searched from those before it
 // (src/peephole/minimize_statements.rs 1167-1204).
-ghost use Prim.Native.Nat.{_*_, _≤_};
-ghost use lib.ListN.{length};
 ghost use Rattle.records.specs.File.{read, IsHeaderOf};
 ghost use Rattle.walk_rules.specs.Context.{contextOf};
 ghost use Rattle.statements.specs.State.{declaratorTables, LongWithin};
 ghost use Rattle.statements.specs.Declarators.{CanTakeLaterTree, TakenLaterTree, CanTakeLater, TakenLater, CanTakeAll, TakenAll};
-use crate::folded::list_folded;
-use crate::next::load_next;
-use crate::next::next_declarator;
-use crate::progress::Progress;
-use crate::push::push_declarator;
 use records::layout::Header;
+use statements_progress::folded::list_folded;
+use statements_progress::next::load_next;
+use statements_progress::next::next_declarator;
+use statements_progress::progress::Progress;
+use statements_progress::push::push_declarator;
 use statements_search::from_declarators::SearchedTree;
 use statements_search::from_declarators::substitute_single_use_symbol_in_expression_from_declarators;
 

@@ -19,11 +19,12 @@ use Rattle.statements_rules.specs.Declarators.{FromDeclarators, substituteFromD
 use Rattle.statements_rules.specs.Trace.{pure}
 use Rattle.statements_search.specs.declared.from_declarator.Tried.{Tried}
 use Rattle.statements_search.specs.declared.from_declarators.Searched.{Searched}
-use Rattle.statements_search.specs.Kept.{laidInitializer, nodeCount, bareInitializer, laidDeclarators, nodesIn, bareDeclarators, Held, namesFrom, foldedNames, mostInUse}
+use Rattle.statements_search.specs.Kept.{laidInitializer, nodeCount, bareInitializer, laidDeclarators, nodesIn, bareDeclarators, Held, foldedNames, mostInUse}
+use Rattle.statements_progress.specs.Listed.{namesFrom}
 use Rattle.statements_search.specs.Try.{Try, tryFrom}
 use Rattle.statements_search.specs.FromDeclarators.{Standing, StandingDeclarators, CanTry, Stepped, StepLeaves, Tries, CanSearch, Found, SearchesFrom}
 use Rattle.statements_rules.proofs.Totals.{total, declaratorSize, initializerSize}
-use Rattle.statements_search.proofs.Names.{names-more}
+use Rattle.statements_progress.proofs.Names.{names-more}
 use Rattle.statements_search.proofs.Looks.{declarators-looks}
 use Rattle.statements_search.proofs.Steps.{Ends, Folds, step-ends, step-folds, step-size, kept-step-size}
 

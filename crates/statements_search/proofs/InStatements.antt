@@ -24,11 +24,12 @@ use Rattle.statements_rules.specs.Statements.{Kept, inFileOrder, FromStatements
 use Rattle.statements_rules.proofs.Totals.{from-declarators}
 use Rattle.statements_search.specs.declared.from_declarators.Searched.{Searched}
 use Rattle.statements_search.specs.declared.in_statement.InStatement.{InStatement}
-use Rattle.statements_search.specs.Kept.{laidDeclarators, nodesIn, bareDeclarators, Held, namesFrom, foldedNames, mostInUse}
+use Rattle.statements_search.specs.Kept.{laidDeclarators, nodesIn, bareDeclarators, Held, foldedNames, mostInUse}
+use Rattle.statements_progress.specs.Listed.{namesFrom}
 use Rattle.statements_search.specs.KeptStatements.{laidStatement, nodesOfStatement, bareStatement, laidKept, nodesKept, declaratorsKept, bareKept, HeldKept, KeepsBefore, tables}
 use Rattle.statements_search.specs.FromDeclarators.{CanSearch, Found, SearchesFrom}
 use Rattle.statements_search.specs.InStatement.{CanSearchStatements, SearchedStatements, SearchesStatements}
-use Rattle.statements_search.proofs.Names.{names-split}
+use Rattle.statements_progress.proofs.Names.{names-split}
 use Rattle.statements_search.proofs.Looks.{in-statement-looks}
 use Rattle.statements_search.proofs.Going.{nodes-in}
 use Rattle.statements_search.proofs.KeptRecords.{kept-split, kept-total, declarators-total, keptDeclaration, Last, declared, no-using, last-record, last, row, held-written}

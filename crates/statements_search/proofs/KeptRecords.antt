@@ -21,7 +21,7 @@ use Rattle.statements_search.specs.Kept.{laidDeclarators, bareDeclarator
 use Rattle.statements_search.specs.KeptStatements.{laidStatement, nodesOfStatement, bareStatement, laidKept, nodesKept, declaratorsKept, bareKept, HeldKept, KeepsBefore, tables}
 use Rattle.statements_search.specs.FromDeclarators.{StandingDeclarators}
 use Rattle.statements_search.proofs.Going.{declarators-split, declarators-length, nodes-in}
-use Rattle.statements_search.proofs.Written.{statement-before, written}
+use Rattle.statements_progress.proofs.Written.{statement-before, written}
 
 -- the trees of statements, and the bytes behind them
 statement-split : (s : Statement) (x : List ℕ) → laidStatement s x ≡ laidStatement s [] ++ x

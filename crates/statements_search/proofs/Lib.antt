@@ -5,12 +5,10 @@ pub mod Ending
 pub mod Searched
 pub mod Describing
 pub mod BareNames
-pub mod Names
 pub mod Looks
 pub mod Steps
 pub mod Going
 pub mod Holes
 pub mod Trying
-pub mod Written
 pub mod KeptRecords
 pub mod InStatements

@@ -199,7 +199,7 @@ module _ (ctx : Context) (literalOnly : Bool) (table table′ : List ℕ) (d : D
       let (held, y, l) = sought ctx s table table′ (tree .0) w v t (k pre t (laid target rest) (tree-at x)) (pre ++ laid t []) target rest (target-at x) in
       let (t′, name, between, after, i, f) = replaced-found place indirect y o in
       let (rest′, z) = g t (recordOf name 0) pre between after rest (found-before place indirect o x f) in
-      let (u, c) = moved place indirect o x f z in
+      let (u, c) = moved place indirect o {rest′ = rest′} x f z in
       let b : Bare (replaced t′) = subst Bare i (bare-answer ctx (s .name .0) t (bare-both x .0) target (bare-both x .1)) in
       stepped-folded t t′ pre rest rest′ (tryFrom ctx literalOnly (d .name) (given t) target) (searched-step t target (h pre t (laid target rest) (tree-at x)) l ∙ ap (byAnswer target (w .looks)) i) u c b q m
 

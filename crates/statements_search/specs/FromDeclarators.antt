@@ -13,7 +13,8 @@ use Rattle.walk_arms.specs.Search.{bareNames}
 use Rattle.statements_rules.specs.Declarators.{FromDeclarators, substituteFromDeclarators}
 use Rattle.statements_search.specs.declared.from_declarator.Tried.{Tried}
 use Rattle.statements_search.specs.declared.from_declarators.Searched.{Searched}
-use Rattle.statements_search.specs.Kept.{laidInitializer, nodeCount, bareInitializer, laidDeclarators, nodesIn, bareDeclarators, Held, namesFrom, foldedNames, mostInUse}
+use Rattle.statements_search.specs.Kept.{laidInitializer, nodeCount, bareInitializer, laidDeclarators, nodesIn, bareDeclarators, Held, foldedNames, mostInUse}
+use Rattle.statements_progress.specs.Listed.{namesFrom}
 use Rattle.statements_search.specs.Try.{Try, tryFrom}
 
 -- Behind some bytes stand a declarator's initializer, if it has one, and the tree that is searched.

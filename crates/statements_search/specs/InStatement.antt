@@ -7,7 +7,8 @@ use Rattle.records.specs.Tree.{Tree}
 use Rattle.walk_rules.specs.Context.{Context}
 use Rattle.statements_rules.specs.Statements.{Kept, FromStatements, substituteInStatement}
 use Rattle.statements_search.specs.declared.in_statement.InStatement.{InStatement}
-use Rattle.statements_search.specs.Kept.{namesFrom, foldedNames, mostInUse}
+use Rattle.statements_search.specs.Kept.{foldedNames, mostInUse}
+use Rattle.statements_progress.specs.Listed.{namesFrom}
 use Rattle.statements_search.specs.KeptStatements.{Tables, KeepsBefore}
 
 -- some statements stand before some tree, with room for a node more for each declarator, and not too many

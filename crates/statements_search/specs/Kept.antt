@@ -1,5 +1,5 @@
 -- Declarators that are kept, the last first: their trees in the work table, one after the other, and their records.
-use Prim.Native.Nat.{ℕ, zero, suc, _+_, _*_}
+use Prim.Native.Nat.{ℕ, _+_, _*_}
 use mathlib.Core.Bool.{Bool, true, _&&_}
 use mathlib.Core.List.{List, [], _∷_, map}
 use mathlib.Core.Path.{_≡_}
@@ -45,11 +45,6 @@ Held records starts low at (d ∷ ds) =
     (declaratorAt records (4 * (low + length ds)) ≡ record { name = d .name; present = isGiven (d .initializer) })
     × (getD starts (low + length ds) 0 ≡ at + nodesIn ds)
     × Held records starts low at ds
-
--- the names of so many declarators from number `low` on, the last first
-unfoldable pub namesFrom : List ℕ → ℕ → ℕ → List ℕ
-namesFrom records low zero = []
-namesFrom records low (suc n) = declaratorAt records (4 * (low + n)) .name ∷ namesFrom records low n
 
 -- the names that folds took
 abbrev pub foldedNames : List Fold → List ℕ

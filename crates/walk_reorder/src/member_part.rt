@@ -5,13 +5,13 @@ ghost use Rattle.records.specs.Tree.{node, none, nodeOf};
 ghost use Rattle.records.specs.File.{IsWhole, read};
 ghost use Rattle.walk_rules.specs.Context.{contextOf};
 ghost use Rattle.walk_rules.specs.Target.{memberPartBlocksReorder, computedKeyBlocksReorder};
-use crate::this_expression::this_expression_blocks_reorder;
 use crate::unsettled::identifier_read_blocks_reorder;
 use records::kinds::LITERAL;
 use records::kinds::NAME;
 use records::kinds::THIS;
 use records::layout::NameId;
 use records::layout::NodeRecord;
+use walk_this::this_expression::this_expression_blocks_reorder;
 
 // A member's object, by its root: a name that is unsettled, `this` where it blocks, anything else.
 pub fn member_part_blocks_reorder(file: &[u8], part: NodeRecord) -> bool

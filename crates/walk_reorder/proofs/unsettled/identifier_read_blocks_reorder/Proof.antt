@@ -1,7 +1,7 @@
 -- `walk_reorder::unsettled::identifier_read_blocks_reorder` meets its contract. Assumes nothing.
 use mathlib.Core.Path.{refl}
 use Rattle.walk_rules.specs.Unsettled.{unsettled}
-use Rattle.walk_reorder.proofs.Known.{length-known}
+use Rattle.walk_this.proofs.Known.{length-known}
 use Rattle.walk_rules.proofs.FactsRead.{facts-read}
 use Rattle.walk_reorder.proofs.Climbing.{names-room}
 use borrow.Author.Needs.{needs}
