@@ -13,12 +13,12 @@ use crate::within_declaration::substitute_single_use_symbol_within_declaration;
 use records::layout::Header;
 use records::layout::StatementRecord;
 use records::number::size;
+use statements_declarator::unsearched::is_unsearched;
+use statements_declarator::unsearched::is_using;
 use statements_progress::next::next_declarator;
 use statements_progress::progress::Progress;
 use statements_progress::push::push_declarator;
 use statements_progress::push::push_statement;
-use statements_search::unsearched::is_unsearched;
-use statements_search::unsearched::is_using;
 
 fn fold_first_declarator(
     file: &[u8],

@@ -1,9 +1,4 @@
--- Laws of the cases, of the search's end, of what is known of a tree and of names without children; then of the search from
--- declarators and from statements.
-pub mod Cases
-pub mod Ending
-pub mod Searched
-pub mod Describing
+-- Laws of names without children, of the search from declarators and from statements.
 pub mod BareNames
 pub mod Looks
 pub mod Steps

@@ -1,7 +1,4 @@
--- What is asked of a declarator before a search; declarators and statements in the work table, and the search of a tree from
--- them.
-pub mod Cases
-pub mod Ends
+-- Declarators and statements in the work table, and the search of a tree from them.
 pub mod Kept
 pub mod Try
 pub mod FromDeclarators

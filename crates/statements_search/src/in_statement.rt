@@ -12,7 +12,6 @@ ghost use Rattle.statements_search.specs.InStatement.{CanSearchStatement
 ghost use Rattle.statements_search.specs.KeptStatements.{tables};
 use crate::from_declarators::SearchedTree;
 use crate::from_declarators::substitute_single_use_symbol_in_expression_from_declarators;
-use crate::unsearched::is_unsearched;
 use records::flags::is_literal_only;
 use records::kinds::CONST;
 use records::layout::Header;
@@ -22,6 +21,7 @@ use records::layout::statement_at;
 use records::limits::STATEMENT_LENGTH;
 use records::number::size;
 use records::put::put_statement;
+use statements_declarator::unsearched::is_unsearched;
 
 // How many statements and declarators are left, where the searched tree begins, how many nodes are in use, the folds and the
 // looks.

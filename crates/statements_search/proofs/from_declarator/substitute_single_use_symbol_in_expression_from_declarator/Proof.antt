@@ -5,9 +5,9 @@ use Rattle.records_table.proofs.Laid.{stands-room}
 use Rattle.records.specs.File.{fileLength, read}
 use Rattle.walk_rules.specs.Context.{contextOf}
 use Rattle.walk_rules.proofs.FactsRead.{facts-read}
-use Rattle.statements_search.proofs.Cases.{is-given, is-bare, is-name}
-use Rattle.statements_search.proofs.Ending.{options-are, pattern-ends, unrecorded-ends, test-ends}
-use Rattle.statements_search.proofs.Describing.{root-is}
+use Rattle.statements_declarator.proofs.Cases.{is-given, is-bare, is-name}
+use Rattle.statements_declarator.proofs.Ending.{options-are, pattern-ends, unrecorded-ends, test-ends}
+use Rattle.statements_declarator.proofs.Describing.{root-is}
 use Rattle.statements_search.proofs.Trying.{try-bare, try-ended, try-stopped, try-folded, can-given, holds-name, holds-at, splices-at}
 use Prim.Native.Nat.{_+_, _*_, _≤_}
 use lib.ListN.{length}

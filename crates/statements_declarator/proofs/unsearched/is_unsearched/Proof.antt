@@ -1,8 +1,8 @@
--- `statements_search::unsearched::is_unsearched` meets its contract. Assumes nothing.
-use Rattle.statements_search.proofs.Searched.{by-scope}
+-- `statements_declarator::unsearched::is_unsearched` meets its contract. Assumes nothing.
+use Rattle.statements_declarator.proofs.Searched.{by-scope}
 use borrow.Author.Needs.{needs}
-use Rattle.statements_search.proofs.unsearched.is_unsearched.Statement.{statement}
-use Rattle.statements_search.proofs.unsearched.is_unsearched.Tie as tie
+use Rattle.statements_declarator.proofs.unsearched.is_unsearched.Statement.{statement}
+use Rattle.statements_declarator.proofs.unsearched.is_unsearched.Tie as tie
 
 scope-of-requires : tie.Need-scope-of-requires
 scope-of-requires c κs = search needs

@@ -1,6 +1,6 @@
 // The tests that end the search at a declarator with an initializer (src/peephole/minimize_statements.rs 1231-1253;
 // src/traverse_context/ecma_context.rs 423-433).
-ghost use Rattle.statements_search.specs.Ends.{KeepsName, Ends};
+ghost use Rattle.statements_declarator.specs.Ends.{KeepsName, Ends};
 use records::flags::is_anonymous;
 use records::flags::is_catch_variable;
 use records::flags::is_implicitly_observable;

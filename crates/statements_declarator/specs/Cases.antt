@@ -6,12 +6,12 @@ use Rattle.records.specs.Flags.{recorded}
 use Rattle.records.specs.declared.layout.NodeId.{NodeId}
 use Rattle.records.specs.declared.layout.NameFacts.{NameFacts}
 use Rattle.records.specs.declared.layout.DeclaratorRecord.{DeclaratorRecord}
-use Rattle.statements_search.specs.declared.declarator_parts.Initializer.{Initializer}
-use Rattle.statements_search.specs.declared.declarator_parts.Initializer.the-variants.{Given, Bare}
-use Rattle.statements_search.specs.declared.declarator_parts.PlainName.{PlainName}
-use Rattle.statements_search.specs.declared.declarator_parts.PlainName.the-variants.{Name, Pattern}
-use Rattle.statements_search.specs.declared.declarator_parts.ValueRecord.{ValueRecord}
-use Rattle.statements_search.specs.declared.declarator_parts.ValueRecord.the-variants.{Recorded, Unrecorded}
+use Rattle.statements_declarator.specs.declared.declarator_parts.Initializer.{Initializer}
+use Rattle.statements_declarator.specs.declared.declarator_parts.Initializer.the-variants.{Given, Bare}
+use Rattle.statements_declarator.specs.declared.declarator_parts.PlainName.{PlainName}
+use Rattle.statements_declarator.specs.declared.declarator_parts.PlainName.the-variants.{Name, Pattern}
+use Rattle.statements_declarator.specs.declared.declarator_parts.ValueRecord.{ValueRecord}
+use Rattle.statements_declarator.specs.declared.declarator_parts.ValueRecord.the-variants.{Recorded, Unrecorded}
 
 -- "initializer present u16 (0, 1)": 1 is an initializer, whose tree begins at `start`, and 0 none
 abbrev pub initializerOf : DeclaratorRecord → NodeId → Initializer

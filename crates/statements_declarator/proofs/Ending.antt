@@ -18,11 +18,11 @@ use Rattle.records.specs.declared.layout.DeclaratorRecord.{DeclaratorRecord}
 use Rattle.walk_rules.specs.Context.{Context, contextOf, factsOf}
 use Rattle.walk_rules.specs.Effect.{isLiteralValue}
 use Rattle.statements_rules.specs.Declarators.{isCatchVariable, isImplicitlyObservable, nameNeedsToBeKept, endsSearch}
-use Rattle.statements_search.specs.declared.declarator_parts.PlainName.the-variants.{Name, Pattern}
-use Rattle.statements_search.specs.declared.declarator_parts.ValueRecord.the-variants.{Recorded, Unrecorded}
-use Rattle.statements_search.specs.Cases.{plainName, valueRecord}
-use Rattle.statements_search.specs.Ends.{KeepsName, Ends}
-use Rattle.statements_search.proofs.Cases.{is-name, is-pattern, is-recorded, is-unrecorded}
+use Rattle.statements_declarator.specs.declared.declarator_parts.PlainName.the-variants.{Name, Pattern}
+use Rattle.statements_declarator.specs.declared.declarator_parts.ValueRecord.the-variants.{Recorded, Unrecorded}
+use Rattle.statements_declarator.specs.Cases.{plainName, valueRecord}
+use Rattle.statements_declarator.specs.Ends.{KeepsName, Ends}
+use Rattle.statements_declarator.proofs.Cases.{is-name, is-pattern, is-recorded, is-unrecorded}
 
 -- the options of a file
 pub options-are : (bs : List ℕ) {h : Header} → h ≡ headerOf bs → contextOf (read bs) .options ≡ h .options

@@ -1,9 +1,9 @@
--- `statements_search::describe::describe` meets its contract. Assumes nothing.
+-- `statements_declarator::describe::describe` meets its contract. Assumes nothing.
 use Rattle.records_table.proofs.Laid.{stands-room}
-use Rattle.statements_search.proofs.Describing.{described}
+use Rattle.statements_declarator.proofs.Describing.{described}
 use borrow.Author.Needs.{needs}
-use Rattle.statements_search.proofs.describe.describe.Statement.{statement}
-use Rattle.statements_search.proofs.describe.describe.Tie as tie
+use Rattle.statements_declarator.proofs.describe.describe.Statement.{statement}
+use Rattle.statements_declarator.proofs.describe.describe.Tie as tie
 
 work-node-requires : tie.Need-work-node-requires
 work-node-requires c κs = stands-room ((c .before) .pre)

@@ -1,7 +1,7 @@
 // What the search takes out of a declarator: its initializer, its plain name, the name's value record
 // (src/peephole/minimize_statements.rs 1221-1226, 1237-1239).
 ghost use mathlib.Core.Path.{_≡_};
-ghost use Rattle.statements_search.specs.Cases.{initializerOf, plainName, valueRecord};
+ghost use Rattle.statements_declarator.specs.Cases.{initializerOf, plainName, valueRecord};
 use records::flags::is_recorded;
 use records::layout::DeclaratorRecord;
 use records::layout::NameFacts;

@@ -9,13 +9,13 @@ use Rattle.records.specs.declared.layout.NodeId.{NodeId}
 use Rattle.records.specs.declared.layout.NameId.{NameId}
 use Rattle.records.specs.declared.layout.NameFacts.{NameFacts}
 use Rattle.records.specs.declared.layout.DeclaratorRecord.{DeclaratorRecord}
-use Rattle.statements_search.specs.declared.declarator_parts.Initializer.{Initializer}
-use Rattle.statements_search.specs.declared.declarator_parts.Initializer.the-variants.{Given, Bare}
-use Rattle.statements_search.specs.declared.declarator_parts.PlainName.{PlainName}
-use Rattle.statements_search.specs.declared.declarator_parts.PlainName.the-variants.{Name, Pattern}
-use Rattle.statements_search.specs.declared.declarator_parts.ValueRecord.{ValueRecord}
-use Rattle.statements_search.specs.declared.declarator_parts.ValueRecord.the-variants.{Recorded, Unrecorded}
-use Rattle.statements_search.specs.Cases.{initializerOf, plainName, valueRecord}
+use Rattle.statements_declarator.specs.declared.declarator_parts.Initializer.{Initializer}
+use Rattle.statements_declarator.specs.declared.declarator_parts.Initializer.the-variants.{Given, Bare}
+use Rattle.statements_declarator.specs.declared.declarator_parts.PlainName.{PlainName}
+use Rattle.statements_declarator.specs.declared.declarator_parts.PlainName.the-variants.{Name, Pattern}
+use Rattle.statements_declarator.specs.declared.declarator_parts.ValueRecord.{ValueRecord}
+use Rattle.statements_declarator.specs.declared.declarator_parts.ValueRecord.the-variants.{Recorded, Unrecorded}
+use Rattle.statements_declarator.specs.Cases.{initializerOf, plainName, valueRecord}
 
 -- the values of a case, and others where there are none
 abbrev startOf : NodeId → Initializer → NodeId

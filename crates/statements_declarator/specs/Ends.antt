@@ -11,8 +11,8 @@ use Rattle.records.specs.declared.layout.NameFacts.{NameFacts}
 use Rattle.records.specs.declared.layout.NodeRecord.{NodeRecord}
 use Rattle.walk_rules.specs.Context.{Context, factsOf}
 use Rattle.statements_rules.specs.Declarators.{nameNeedsToBeKept, endsSearch}
-use Rattle.statements_search.specs.declared.declarator_parts.ValueRecord.the-variants.{Recorded}
-use Rattle.statements_search.specs.Cases.{valueRecord}
+use Rattle.statements_declarator.specs.declared.declarator_parts.ValueRecord.the-variants.{Recorded}
+use Rattle.statements_declarator.specs.Cases.{valueRecord}
 
 -- whether the name of a tree with this root is kept
 abbrev pub KeepsName : Header → NodeRecord → Bool → Type 0

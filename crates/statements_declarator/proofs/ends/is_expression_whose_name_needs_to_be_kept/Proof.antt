@@ -1,10 +1,10 @@
--- `statements_search::ends::is_expression_whose_name_needs_to_be_kept` meets its contract. Assumes nothing.
-use Rattle.statements_search.proofs.Ending.{name-kept}
+-- `statements_declarator::ends::is_expression_whose_name_needs_to_be_kept` meets its contract. Assumes nothing.
+use Rattle.statements_declarator.proofs.Ending.{name-kept}
 use borrow.Author.Needs.{needs}
-use Rattle.statements_search.proofs.ends.is_expression_whose_name_needs_to_be_kept.Statement.{
+use Rattle.statements_declarator.proofs.ends.is_expression_whose_name_needs_to_be_kept.Statement.{
   statement,
 }
-use Rattle.statements_search.proofs.ends.is_expression_whose_name_needs_to_be_kept.Tie as tie
+use Rattle.statements_declarator.proofs.ends.is_expression_whose_name_needs_to_be_kept.Tie as tie
 
 keeps-class-names-requires : tie.Need-keeps-class-names-requires
 keeps-class-names-requires c κs = search needs

@@ -1,8 +1,8 @@
--- `statements_search::declarator_parts::value_record` meets its contract. Assumes nothing.
+-- `statements_declarator::declarator_parts::value_record` meets its contract. Assumes nothing.
 use mathlib.Core.Path.{refl, sym, _∙_}
 use borrow.Author.Needs.{needs}
-use Rattle.statements_search.proofs.declarator_parts.value_record.Statement.{statement}
-use Rattle.statements_search.proofs.declarator_parts.value_record.Tie as tie
+use Rattle.statements_declarator.proofs.declarator_parts.value_record.Statement.{statement}
+use Rattle.statements_declarator.proofs.declarator_parts.value_record.Tie as tie
 
 is-recorded-requires : tie.Need-is-recorded-requires
 is-recorded-requires c κs = search needs

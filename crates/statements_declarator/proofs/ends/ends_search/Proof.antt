@@ -1,8 +1,8 @@
--- `statements_search::ends::ends_search` meets its contract. Assumes nothing.
-use Rattle.statements_search.proofs.Ending.{rest-ends}
+-- `statements_declarator::ends::ends_search` meets its contract. Assumes nothing.
+use Rattle.statements_declarator.proofs.Ending.{rest-ends}
 use borrow.Author.Needs.{needs}
-use Rattle.statements_search.proofs.ends.ends_search.Statement.{statement}
-use Rattle.statements_search.proofs.ends.ends_search.Tie as tie
+use Rattle.statements_declarator.proofs.ends.ends_search.Statement.{statement}
+use Rattle.statements_declarator.proofs.ends.ends_search.Tie as tie
 
 is-catch-variable-requires : tie.Need-is-catch-variable-requires
 is-catch-variable-requires c κs = search needs

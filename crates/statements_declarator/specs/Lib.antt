@@ -1,0 +1,3 @@
+-- What is asked of a declarator before a search.
+pub mod Cases
+pub mod Ends
