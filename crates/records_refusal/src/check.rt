@@ -82,15 +82,15 @@ fn check_over(file: &[u8], h: Header, room: usize, stack: &mut [u16]) -> Refusal
 }
 
 // The nodes for which the small stack has room.
-const FEW_NODES: u16 = 240;
+const SMALL_STACK: u16 = 240;
 
 // Rows 5 to 11. The stack is made where the header passes. A small file gets a small one, which takes less time to clear.
 pub fn check_records(file: &[u8], h: Header, room: usize) -> Refusal
     requires header { ⌜ HeaderPasses (now file) h ⌝ }
     ensures result { λ r. ⌜ number r ≡ refusalOf (now (file .entry)) room ⌝ }
 {
-    if h.nodes <= FEW_NODES {
-        let mut stack = [0u16; FEW_NODES as usize];
+    if h.nodes <= SMALL_STACK {
+        let mut stack = [0u16; SMALL_STACK as usize];
         return check_over(file, h, room, &mut stack);
     }
     let mut stack = [0u16; MAX_NODES as usize];

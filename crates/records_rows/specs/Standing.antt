@@ -3,8 +3,8 @@ use Prim.Native.Nat.{ℕ}
 use mathlib.Core.List.{List, [], _∷_}
 
 -- Expressions: kinds 0 to 24, and 28, none of them unchained.
-abbrev expressions : ℕ
-expressions = 72432894006875477
+abbrev anyExpression : ℕ
+anyExpression = 72432894006875477
 
 -- expressions, unchained or not
 abbrev objects : ℕ
@@ -37,35 +37,35 @@ arguments = 73558793913718101
 -- two sets for each kind: what may stand as its first child, except under a shorthand, and what as a later one
 unfoldable pub standing : List ℕ
 standing =
-    expressions ∷ expressions ∷  -- 0 other
-    expressions ∷ expressions ∷  -- 1 literal
-    expressions ∷ expressions ∷  -- 2 function
-    expressions ∷ expressions ∷  -- 3 class
-    expressions ∷ expressions ∷  -- 4 name
-    expressions ∷ expressions ∷  -- 5 this
-    expressions ∷ expressions ∷  -- 6 await
-    expressions ∷ expressions ∷  -- 7 yield
-    expressions ∷ expressions ∷  -- 8 import
-    expressions ∷ expressions ∷  -- 9 unary
-    objects ∷ expressions ∷  -- 10 static member
-    objects ∷ expressions ∷  -- 11 private member
-    objects ∷ expressions ∷  -- 12 computed member
+    anyExpression ∷ anyExpression ∷  -- 0 other
+    anyExpression ∷ anyExpression ∷  -- 1 literal
+    anyExpression ∷ anyExpression ∷  -- 2 function
+    anyExpression ∷ anyExpression ∷  -- 3 class
+    anyExpression ∷ anyExpression ∷  -- 4 name
+    anyExpression ∷ anyExpression ∷  -- 5 this
+    anyExpression ∷ anyExpression ∷  -- 6 await
+    anyExpression ∷ anyExpression ∷  -- 7 yield
+    anyExpression ∷ anyExpression ∷  -- 8 import
+    anyExpression ∷ anyExpression ∷  -- 9 unary
+    objects ∷ anyExpression ∷  -- 10 static member
+    objects ∷ anyExpression ∷  -- 11 private member
+    objects ∷ anyExpression ∷  -- 12 computed member
     chained ∷ chainElements ∷  -- 13 chain
     objects ∷ arguments ∷  -- 14 call
-    expressions ∷ arguments ∷  -- 15 new
-    expressions ∷ expressions ∷  -- 16 binary
-    expressions ∷ expressions ∷  -- 17 logical
-    expressions ∷ expressions ∷  -- 18 private in
-    expressions ∷ expressions ∷  -- 19 conditional
-    targets ∷ expressions ∷  -- 20 assignment
+    anyExpression ∷ arguments ∷  -- 15 new
+    anyExpression ∷ anyExpression ∷  -- 16 binary
+    anyExpression ∷ anyExpression ∷  -- 17 logical
+    anyExpression ∷ anyExpression ∷  -- 18 private in
+    anyExpression ∷ anyExpression ∷  -- 19 conditional
+    targets ∷ anyExpression ∷  -- 20 assignment
     elements ∷ elements ∷  -- 21 array
     properties ∷ properties ∷  -- 22 object
-    expressions ∷ expressions ∷  -- 23 template
-    expressions ∷ expressions ∷  -- 24 tagged template
-    expressions ∷ expressions ∷  -- 25 spread
-    expressions ∷ expressions ∷  -- 26 property
-    expressions ∷ expressions ∷  -- 27 elision
-    expressions ∷ expressions ∷  -- 28 sequence
-    expressions ∷ expressions ∷  -- 29 target name
-    expressions ∷ expressions ∷  -- 30 opaque target
+    anyExpression ∷ anyExpression ∷  -- 23 template
+    anyExpression ∷ anyExpression ∷  -- 24 tagged template
+    anyExpression ∷ anyExpression ∷  -- 25 spread
+    anyExpression ∷ anyExpression ∷  -- 26 property
+    anyExpression ∷ anyExpression ∷  -- 27 elision
+    anyExpression ∷ anyExpression ∷  -- 28 sequence
+    anyExpression ∷ anyExpression ∷  -- 29 target name
+    anyExpression ∷ anyExpression ∷  -- 30 opaque target
     []

@@ -29,8 +29,8 @@ abbrev pub Tally : (ℕ → ℕ) → List ℕ → Type 0
 Tally f xs = (k : ℕ) → k < length xs → getD xs k 0 ≡ f k
 
 -- an array after one use more of a name, if the name has a place in it
-abbrev pub Adds : ℕ → List ℕ → List ℕ → Type 0
-Adds name xs xs′ = Tally (λ k. one (eqb name k) + getD xs k 0) xs′
+abbrev pub AddsUse : ℕ → List ℕ → List ℕ → Type 0
+AddsUse name xs xs′ = Tally (λ k. one (eqb name k) + getD xs k 0) xs′
 
 -- a declarator of no name, or of one that an array of names has a place for
 unfoldable pub fits : DeclaratorRecord → Bool

@@ -11,7 +11,7 @@ ghost use Rattle.records.specs.Records.{everyFrom};
 ghost use Rattle.records.specs.File.{factsFrom};
 ghost use Rattle.records.specs.Tree.{nodeOf};
 ghost use Rattle.records.specs.Count.{targetName, goodCounts};
-ghost use Rattle.records_rows.specs.Tally.{Adds, recordRead};
+ghost use Rattle.records_rows.specs.Tally.{AddsUse, recordRead};
 use records::flags::is_compound;
 use records::flags::is_mutated;
 use records::flags::is_recorded;
@@ -44,7 +44,7 @@ fn target_name(n: NodeRecord) -> NameId
 // One use more of a name that has a place in the array.
 fn add_use(uses: &mut [u16], name: NameId)
     requires count { ⌜ getD (now uses) (name .0) 0 < 65535 ⌝ }
-    ensures uses { λ _. ⌜ Adds (name .0) (now (uses .entry)) (now (uses .exit)) ⌝ }
+    ensures uses { λ _. ⌜ AddsUse (name .0) (now (uses .entry)) (now (uses .exit)) ⌝ }
 {
     let at = size(name.0);
     if at < uses.len() {
@@ -61,8 +61,8 @@ pub fn count_uses(file: &[u8], at: usize, n: NodeRecord, reads: &mut [u16], targ
     requires targets { ⌜ ((k : ℕ) → getD (now targets) k 0 < 65535) ⌝ }
     requires places { ⌜ (length (now reads) ≤ 65535) × (length (now targets) ≤ 65535) ⌝ }
     ensures reads { λ _. let next = targetName (nodeOf (nodeAt (now (file .entry)) (at + nodeLength))) in
-        ⌜ Adds (recordRead n next) (now (reads .entry)) (now (reads .exit)) ⌝ }
-    ensures targets { λ _. ⌜ Adds (targetName (nodeOf n)) (now (targets .entry)) (now (targets .exit)) ⌝ }
+        ⌜ AddsUse (recordRead n next) (now (reads .entry)) (now (reads .exit)) ⌝ }
+    ensures targets { λ _. ⌜ AddsUse (targetName (nodeOf n)) (now (targets .entry)) (now (targets .exit)) ⌝ }
 {
     if n.children == 0 {
         if n.kind == NAME {

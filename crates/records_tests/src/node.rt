@@ -113,7 +113,7 @@ pub const MOST: [u16; 31] = [
 const MARKABLE: u64 = 0x63ff_dfd9;
 
 // STATIC_MEMBER, PRIVATE_MEMBER, COMPUTED_MEMBER and CALL.
-const CHAIN_ELEMENTS: u64 = 0x5c00;
+const CHAIN_ELEMENT_KINDS: u64 = 0x5c00;
 
 // The two tables are lent: a constant would be laid down anew for each node.
 fn children_are_good(n: NodeRecord, fewest: &[u16], most: &[u16]) -> bool
@@ -146,7 +146,7 @@ fn flags_are_good(n: NodeRecord) -> bool
         return has_bit(MARKABLE, wide(n.kind));
     }
     if n.flags <= OPTIONAL + MARKED {
-        return has_bit(CHAIN_ELEMENTS, wide(n.kind));
+        return has_bit(CHAIN_ELEMENT_KINDS, wide(n.kind));
     }
     if n.kind == PROPERTY {
         return (n.flags == SHORTHAND)

@@ -15,7 +15,7 @@ use replay_answers::entry::Entry;
 use replay_answers::entry::read_entry;
 use returned::Returned;
 use returned::returned_for;
-use totals::Totals;
+use totals::ReplayTotals;
 
 // The fold of a file compared with its entry; `expected` is the result that the entry has.
 fn replay(entry: usize, e: Entry, file: &[u8], expected: &[u8], output: &mut [u8]) -> Returned {
@@ -52,7 +52,7 @@ fn main() {
     let mut file = io::large_buffer();
     let mut result = io::large_buffer();
     let mut output = io::large_buffer();
-    let mut totals = Totals::new();
+    let mut totals = ReplayTotals::new();
     let mut entry = 0;
     while entry < 1000000 {
         let e = read_entry(&mut head, &mut file, &mut result);

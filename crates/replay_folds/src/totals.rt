@@ -2,7 +2,7 @@
 use crate::returned::Returned;
 use records::number::one;
 
-pub struct Totals {
+pub struct ReplayTotals {
     accepted: usize,
     folds: usize,
     bytes: usize,
@@ -17,7 +17,7 @@ fn sum(a: usize, b: usize) -> usize {
     }
 }
 
-impl Totals {
+impl ReplayTotals {
     pub fn new() -> Self {
         Self {
             accepted: 0,

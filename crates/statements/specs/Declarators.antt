@@ -16,7 +16,7 @@ use Rattle.statements_rules.specs.Statements.{Kept, inFirstDeclarator}
 use Rattle.statements_search.specs.KeptStatements.{Tables}
 use Rattle.statements_progress.specs.declared.progress.Progress.{Progress}
 use Rattle.statements.specs.Added.{Adds}
-use Rattle.statements.specs.State.{DeclaratorTables, beside, State, holding, following}
+use Rattle.statements.specs.State.{DeclaratorTables, withStatementTable, State, holding, following}
 
 abbrev pub recordFor : Declarator → DeclaratorRecord
 recordFor d = record { name = d .name; present = isGiven (d .initializer) }
@@ -53,7 +53,7 @@ CanTakeLaterTree file h tb low p =
     (statements : List ℕ) × (ks : List Kept) × (done : List Declarator) × (t : Tree) × (ts : Trees)
     × (coming : List DeclaratorRecord) × (left : ℕ)
     × (rest : List ℕ) × (before : List NodeRecord)
-    × State file h (beside tb statements) p (holding low ks done bare rest) (following (more t ts) coming left before)
+    × State file h (withStatementTable tb statements) p (holding low ks done bare rest) (following (more t ts) coming left before)
 
 abbrev pub TakenLaterTree : Context → Bool → List ℕ → Header → DeclaratorTables → DeclaratorTables → List ℕ → List ℕ → ℕ
     → Progress → Progress → Type 0
@@ -61,10 +61,10 @@ TakenLaterTree ctx searched file h tb tb′ folded folded′ low p r =
     (statements : List ℕ) (ks : List Kept) (done : List Declarator) (t : Tree) (ts : Trees) (coming : List DeclaratorRecord)
     (left : ℕ)
     (rest : List ℕ) (before : List NodeRecord)
-    → State file h (beside tb statements) p (holding low ks done bare rest) (following (more t ts) coming left before)
+    → State file h (withStatementTable tb statements) p (holding low ks done bare rest) (following (more t ts) coming left before)
     → (above : List Statement) (kind : DeclarationKind)
     → (rest′ : List ℕ) × (before′ : List NodeRecord)
-    × State file h (beside tb′ statements) r
+    × State file h (withStatementTable tb′ statements) r
     (holding low ks (laterTree ctx above kind searched done t .result .left)
     (given (laterTree ctx above kind searched done t .result .target)) rest′)
     (following ts coming left before′)
@@ -88,7 +88,7 @@ CanTakeLater file h tb low p =
     (statements : List ℕ) × (ks : List Kept) × (done : List Declarator) × (d : Declarator) × (ts : Trees)
     × (coming : List DeclaratorRecord) × (left : ℕ)
     × (rest : List ℕ) × (before : List NodeRecord)
-    × State file h (beside tb statements) p (holding low ks done bare rest)
+    × State file h (withStatementTable tb statements) p (holding low ks done bare rest)
     (following (initializerTree (d .initializer) ts) (recordFor d ∷ coming) left before)
 
 abbrev pub TakenLater : Context → Bool → List ℕ → Header → DeclaratorTables → DeclaratorTables → List ℕ → List ℕ → ℕ → Progress
@@ -97,11 +97,11 @@ TakenLater ctx searched file h tb tb′ folded folded′ low p r =
     (statements : List ℕ) (ks : List Kept) (done : List Declarator) (d : Declarator) (ts : Trees)
     (coming : List DeclaratorRecord) (left : ℕ)
     (rest : List ℕ) (before : List NodeRecord)
-    → State file h (beside tb statements) p (holding low ks done bare rest)
+    → State file h (withStatementTable tb statements) p (holding low ks done bare rest)
     (following (initializerTree (d .initializer) ts) (recordFor d ∷ coming) left before)
     → (above : List Statement) (kind : DeclarationKind)
     → (rest′ : List ℕ) × (before′ : List NodeRecord)
-    × State file h (beside tb′ statements) r (holding low ks (laterDeclarator ctx above kind searched done d .result) bare rest′)
+    × State file h (withStatementTable tb′ statements) r (holding low ks (laterDeclarator ctx above kind searched done d .result) bare rest′)
     (following ts coming left before′)
     × Adds folded folded′ p r (laterDeclarator ctx above kind searched done d)
 
@@ -111,7 +111,7 @@ CanTakeAll file h tb low n p =
     (statements : List ℕ) × (ks : List Kept) × (done : List Declarator) × (ds : List Declarator) × (ts : Trees)
     × (coming : List DeclaratorRecord) × (left : ℕ)
     × (rest : List ℕ) × (before : List NodeRecord)
-    × State file h (beside tb statements) p (holding low ks done bare rest)
+    × State file h (withStatementTable tb statements) p (holding low ks done bare rest)
     (following (initializerTrees ds ts) (declaratorRecords ds ++ coming) left before)
     × (length ds ≡ n)
 
@@ -120,11 +120,11 @@ abbrev pub TakenAll : Context → Bool → List ℕ → Header → DeclaratorTab
 TakenAll ctx searched file h tb tb′ folded folded′ low n p r =
     (statements : List ℕ) (ks : List Kept) (done ds : List Declarator) (ts : Trees) (coming : List DeclaratorRecord) (left : ℕ)
     (rest : List ℕ) (before : List NodeRecord)
-    → State file h (beside tb statements) p (holding low ks done bare rest)
+    → State file h (withStatementTable tb statements) p (holding low ks done bare rest)
     (following (initializerTrees ds ts) (declaratorRecords ds ++ coming) left before)
     → length ds ≡ n → (above : List Statement) (kind : DeclarationKind)
     → (rest′ : List ℕ) × (before′ : List NodeRecord)
-    × State file h (beside tb′ statements) r
+    × State file h (withStatementTable tb′ statements) r
     (holding low ks (laterDeclarators ctx above kind searched done ds .result) bare rest′)
     (following ts coming left before′)
     × Adds folded folded′ p r (laterDeclarators ctx above kind searched done ds)

@@ -27,8 +27,8 @@ pub record DeclaratorTables : Type 0 where
 abbrev pub declaratorTables : List ℕ → List ℕ → List ℕ → DeclaratorTables
 declaratorTables nodes declarators starts = record { nodes = nodes; declarators = declarators; starts = starts }
 
-abbrev pub beside : DeclaratorTables → List ℕ → Tables
-beside t statements = tables (t .nodes) (t .declarators) (t .starts) statements
+abbrev pub withStatementTable : DeclaratorTables → List ℕ → Tables
+withStatementTable t statements = tables (t .nodes) (t .declarators) (t .starts) statements
 
 -- the nodes that a fold of the file may need
 abbrev pub mostNodes : Header → ℕ

@@ -61,7 +61,13 @@ is-bare d start e = by (eqb (d .present) 1) e
     by true e = absurd (false≢true (ap isBare e))
     by false e = refl
 
--- a name
+-- a name, or a pattern
+pub a-pattern : (d : DeclaratorRecord) → eqb (d .name) noNumber ≡ true → Pattern ≡ plainName d
+a-pattern d e = rw e refl
+
+pub a-name : (d : DeclaratorRecord) → eqb (d .name) noNumber ≡ false → Name (record { 0 = d .name }) ≡ plainName d
+a-name d e = rw e refl
+
 pub is-name : (d : DeclaratorRecord) {name : NameId} → plainName d ≡ Name name → (eqb (d .name) noNumber ≡ false) × (name .0 ≡ d .name)
 is-name d {name} e = by (eqb (d .name) noNumber) e
   where

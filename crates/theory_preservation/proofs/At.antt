@@ -11,7 +11,7 @@ use Rattle.theory_runs.specs.Step.{Role, Step}
 use Rattle.theory_runs.specs.Meaning.{Meaning}
 use Rattle.theory_runs.specs.Form.{cleared, isMarked, isMember, isDelete, Form, constant, name, targetName, leaf, chain, property, importing, sequence, assignment, stepping, form, firstRole, originOf}
 use Rattle.theory_runs.specs.State.{State, Out, gave, bind}
-use Rattle.theory_runs.specs.Run.{Turn, kept, gathered, held, goesOn, own, beside, finished, runNode, run, runChildren, runOthers}
+use Rattle.theory_runs.specs.Run.{Turn, kept, gathered, held, afterFirst, own, beside, finished, runNode, run, runChildren, runOthers}
 use Rattle.theory_preservation.proofs.Passing.{bind-same}
 
 -- a node at another position
@@ -53,16 +53,16 @@ module _ {Value Rest : Type 0} (names : List NameFacts) (m : Meaning Value Rest)
   unfolding finished placedAt originOf isMember beside
   finished-at p f n role hs s = ap (λ o. bind o (λ w s′. gave (record { value = w; beside = beside names (m .undefined) f n hs }) s′)) (own-at p f n role (record { origin = originOf n role; hand = hs }) s)
 
-  goesOn-at : (p : ℕ) (f : Form) (n : Node) (role : Role) (others : Turn → State Value Rest → Out Value Rest (List (Given Value))) (x : Given Value) (s : State Value Rest) → goesOn m f (placedAt p n) role others x s ≡ goesOn m f n role others x s
-  unfolding goesOn originOf isMember
-  goesOn-at p f n role others x s = rw (kept-at p f n (x .beside)) (unfold placedAt in refl)
+  afterFirst-at : (p : ℕ) (f : Form) (n : Node) (role : Role) (others : Turn → State Value Rest → Out Value Rest (List (Given Value))) (x : Given Value) (s : State Value Rest) → afterFirst m f (placedAt p n) role others x s ≡ afterFirst m f n role others x s
+  unfolding afterFirst originOf isMember
+  afterFirst-at p f n role others x s = rw (kept-at p f n (x .beside)) (unfold placedAt in refl)
 
   children-at : (p : ℕ) (ts : Trees) (f : Form) (n : Node) (role : Role) (s : State Value Rest) → runChildren names m ts f (placedAt p n) role s ≡ runChildren names m ts f n role s
   unfolding run
   children-at p none f n role s = refl
   children-at p (more t ts) f n role s =
-      ap (λ ρ. bind (run names m t ρ s) (goesOn m f (placedAt p n) role (λ w s′. runOthers names m ts w s′))) (role-at p f n role)
-      ∙ bind-same (run names m t (firstRole f n role) s) _ _ (λ x s′. goesOn-at p f n role (λ w s″. runOthers names m ts w s″) x s′)
+      ap (λ ρ. bind (run names m t ρ s) (afterFirst m f (placedAt p n) role (λ w s′. runOthers names m ts w s′))) (role-at p f n role)
+      ∙ bind-same (run names m t (firstRole f n role) s) _ _ (λ x s′. afterFirst-at p f n role (λ w s″. runOthers names m ts w s″) x s′)
 
   node-at : (p : ℕ) (n : Node) (ts : Trees) (role : Role) (s : State Value Rest) → run names m (node (placedAt p n) ts) role s ≡ run names m (node n ts) role s
   unfolding run runNode form cleared placedAt

@@ -14,10 +14,10 @@ use Rattle.theory_runs.specs.Hand.{Given}
 use Rattle.theory_runs.specs.Step.{Role, value}
 use Rattle.theory_runs.specs.Form.{is, Choice, never, logical, conditional, optionally, Form, choiceOf, firstRole}
 use Rattle.theory_runs.specs.State.{State, Out, gave, cut, bind}
-use Rattle.theory_runs.specs.Run.{Turn, all, skipped, second, third, kept, chosen, goesOn, run, runChildren, runOthers}
+use Rattle.theory_runs.specs.Run.{Turn, all, skipped, second, third, kept, chosen, afterFirst, run, runChildren, runOthers}
 use Rattle.theory_preservation.proofs.Ends.{stepOf}
 use Rattle.theory_preservation.proofs.Uses.{reads, allReads, targets, allTargets, Off, kept-off, first-off, off-through}
-use Rattle.theory_preservation.proofs.Frame.{moved, shifted, gave-on, goesOn-on}
+use Rattle.theory_preservation.proofs.Frame.{moved, shifted, gave-on, afterFirst-on}
 use Rattle.theory_preservation.proofs.Setting.{Setting}
 use Rattle.theory_preservation.proofs.Passing.{Put, put-unseen, bind-same, first, drop, Framed, Unchanging, Reason, unchanging-first, unchanging-drop, drop-only, drop-bind, first-bind, first-same, first-only, two-reasons}
 use Rattle.theory_preservation.proofs.Same.{hand-of, children-same}
@@ -77,8 +77,8 @@ module _ {Value Rest : Type 0} (σ : Setting Value Rest) where
     straight : choiceOf f ≡ never → P.Meant σ (next p) all → Turns p f
     choose : Unchanging σ → ((w : Turn) → lets (choiceOf f) w ≡ true → P.Meant σ (next p) w) → Turns p f
 
-  pub straight-goes : (f : Form) (n : Node) (role : Role) (cs : Turn → S → O (List (Given Value))) (x : Given Value) (s : S) → choiceOf f ≡ never → goesOn m f n role cs x s ≡ bind (cs all s) (λ hs s′. gave (hand-of f n x ∷ hs) s′)
-  unfolding goesOn
+  pub straight-goes : (f : Form) (n : Node) (role : Role) (cs : Turn → S → O (List (Given Value))) (x : Given Value) (s : S) → choiceOf f ≡ never → afterFirst m f n role cs x s ≡ bind (cs all s) (λ hs s′. gave (hand-of f n x ∷ hs) s′)
+  unfolding afterFirst
   straight-goes f n role cs x s e = rw e (unfold chosen in refl)
 
   cut-framed : {A : Type 0} → Framed σ {A = A} (λ s. cut s)
@@ -99,25 +99,25 @@ module _ {Value Rest : Type 0} (σ : Setting Value Rest) where
   choice-of f n x s = m .chooses (stepOf n value (hand-of f n x ∷ [])) (s .store)
 
   moved-goes : (f : Form) (n : Node) (cs : Turn → S → O (List (Given Value))) (x : Given Value) (s : S) (a : Value) → Other n → Off v (x .beside)
-      → goesOn m f n value cs x (moved (Put v a) s) ≡ bind (chosen (choiceOf f) (choice-of f n x s) cs (moved (Put v a) s)) (λ hs s′. gave (hand-of f n x ∷ hs) s′)
-  unfolding goesOn
+      → afterFirst m f n value cs x (moved (Put v a) s) ≡ bind (chosen (choiceOf f) (choice-of f n x s) cs (moved (Put v a) s)) (λ hs s′. gave (hand-of f n x ∷ hs) s′)
+  unfolding afterFirst
   moved-goes f n cs x s a (e, g) h =
       let z : m .chooses (stepOf n value (hand-of f n x ∷ [])) (moved (Put v a) s .store) ≡ choice-of f n x s = (unfold moved Put in put-unseen {Rest = Rest} nothing-hidden a .chooses (stepOf n value (hand-of f n x ∷ [])) (off-through v n value (hand-of f n x ∷ []) e g (first-off v (hand-of f n x ∷ []) (kept-off v f n (x .beside) h))) (s .store)) in
       rw z
 
   choose-goes : (f : Form) (n : Node) (cs : Turn → S → O (List (Given Value))) (x : Given Value) (s : S) → Other n → Off v (x .beside) → Unchanging σ
-      → F (goesOn m f n value cs x) s ≡ bind (F (λ u. chosen (choiceOf f) (choice-of f n x s) cs u) s) (λ hs s′. gave (hand-of f n x ∷ hs) s′)
+      → F (afterFirst m f n value cs x) s ≡ bind (F (λ u. chosen (choiceOf f) (choice-of f n x s) cs u) s) (λ hs s′. gave (hand-of f n x ∷ hs) s′)
   choose-goes f n cs x s e h q =
       unchanging-first σ q _ s
       ∙ moved-goes f n cs x s _ e h
       ∙ ap (λ o. bind o (λ hs s′. gave (hand-of f n x ∷ hs) s′)) (sym (unchanging-first σ q (λ u. chosen (choiceOf f) (choice-of f n x s) cs u) s))
 
-  as-goes : (f : Form) (n : Node) (cs : Turn → S → O (List (Given Value))) (x : Given Value) (s : S) → bind (chosen (choiceOf f) (choice-of f n x s) cs s) (λ hs s′. gave (hand-of f n x ∷ hs) s′) ≡ goesOn m f n value cs x s
-  unfolding goesOn
+  as-goes : (f : Form) (n : Node) (cs : Turn → S → O (List (Given Value))) (x : Given Value) (s : S) → bind (chosen (choiceOf f) (choice-of f n x s) cs s) (λ hs s′. gave (hand-of f n x ∷ hs) s′) ≡ afterFirst m f n value cs x s
+  unfolding afterFirst
   as-goes f n cs x s = refl
 
   goes-place : (p : Plan) (f : Form) (n : Node) (ts ts′ : Trees) (x : Given Value) (s : S) → Other n → Turns p f → Off v (x .beside) → ((w : Turn) → P.UnchangingUnless σ w → P.Meant σ (next p) w → D (F (runOthers names m ts w) s) ≡ D (runOthers names m ts′ w s))
-      → D (F (goesOn m f n value (λ w s′. runOthers names m ts w s′) x) s) ≡ D (goesOn m f n value (λ w s′. runOthers names m ts′ w s′) x s)
+      → D (F (afterFirst m f n value (λ w s′. runOthers names m ts w s′) x) s) ≡ D (afterFirst m f n value (λ w s′. runOthers names m ts′ w s′) x s)
   goes-place p f n ts ts′ x s e (straight g u) h i =
       ap D (first-same σ _ _ (λ s. straight-goes f n value _ x s g) s ∙ first-bind σ (runOthers names m ts all) _ s)
       ∙ drop-bind σ _ _ _ (λ hs a s′. gave-on _ s′) (i all (P.all-unchanging σ) u)
@@ -131,8 +131,8 @@ module _ {Value Rest : Type 0} (σ : Setting Value Rest) where
   abbrev pub Searching : Form → Node → Tree → Type 0
   Searching f n t = (x : Given Value) → kept f n (valueOnly σ t x .beside) ≡ kept f n (x .beside)
 
-  goes-value-only : (f : Form) (n : Node) (t : Tree) (cs : Turn → S → O (List (Given Value))) → Searching f n t → (x : Given Value) (s : S) → goesOn m f n value cs (valueOnly σ t x) s ≡ goesOn m f n value cs x s
-  unfolding goesOn
+  goes-value-only : (f : Form) (n : Node) (t : Tree) (cs : Turn → S → O (List (Given Value))) → Searching f n t → (x : Given Value) (s : S) → afterFirst m f n value cs (valueOnly σ t x) s ≡ afterFirst m f n value cs x s
+  unfolding afterFirst
   goes-value-only f n t cs h x s = rw (value-only-value σ t x, h x)
 
   -- put aside, r gives what the name gave, and no more
@@ -159,11 +159,11 @@ module _ {Value Rest : Type 0} (σ : Setting Value Rest) where
   Parts p f n ts passed = p ≡ every → choiceOf f ≡ never → allReads v ts ≡ 0 → (s : S) → Why s (runChildren names m ts f n value)
 
   abbrev children : Tree → Trees → Form → Node → S → O (List (Given Value))
-  children t ts f n s = bind (go t s) (goesOn m f n value (λ w s′. runOthers names m ts w s′))
+  children t ts f n s = bind (go t s) (afterFirst m f n value (λ w s′. runOthers names m ts w s′))
 
   by-value : (t : Tree) (ts : Trees) (f : Form) (n : Node) (s : S) → First-value f n → runChildren names m (more t ts) f n value s ≡ children t ts f n s
   unfolding run
-  by-value t ts f n s e = ap (λ ρ. bind (run names m t ρ s) (goesOn m f n value (λ w s′. runOthers names m ts w s′))) e
+  by-value t ts f n s e = ap (λ ρ. bind (run names m t ρ s) (afterFirst m f n value (λ w s′. runOthers names m ts w s′))) e
 
   -- a reason for each child is one for all, where there is no choice
   pub straight-why : (f : Form) (n : Node) (role : Role) (t : Tree) (ts : Trees) {s : S} → choiceOf f ≡ never → Why s (run names m t (firstRole f n role)) → Why s (runOthers names m ts all) → Why s (runChildren names m (more t ts) f n role)
@@ -173,14 +173,14 @@ module _ {Value Rest : Type 0} (σ : Setting Value Rest) where
   straight-value : (f : Form) (n : Node) (t : Tree) (ts : Trees) {s : S} → First-value f n → choiceOf f ≡ never → Why s (go t) → Why s (runOthers names m ts all) → Why s (runChildren names m (more t ts) f n value)
   straight-value f n t ts {s = s} e g y z = straight-why f n value t ts g (subst (λ ρ. Why s (run names m t ρ)) (sym e) y) z
 
-  goes-framed : (f : Form) (n : Node) (ts : Trees) → Other n → allReads v ts ≡ 0 → allTargets v ts ≡ 0 → (x : Given Value) → Off v (x .beside) → Framed σ (goesOn m f n value (λ w s′. runOthers names m ts w s′) x)
-  goes-framed f n ts (e, i) h g x o a s = goesOn-on names m v (Put v a) (put-unseen nothing-hidden a) f n value _ x s e i o (λ w s′. free-others σ ts w h g a s′)
+  goes-framed : (f : Form) (n : Node) (ts : Trees) → Other n → allReads v ts ≡ 0 → allTargets v ts ≡ 0 → (x : Given Value) → Off v (x .beside) → Framed σ (afterFirst m f n value (λ w s′. runOthers names m ts w s′) x)
+  goes-framed f n ts (e, i) h g x o a s = afterFirst-on names m v (Put v a) (put-unseen nothing-hidden a) f n value _ x s e i o (λ w s′. free-others σ ts w h g a s′)
 
   -- r into the first child, or behind it
   into-first : (t t′ : Tree) (ts : Trees) (f : Form) (n : Node) (s : S) → Other n → First-value f n → targets v t ≡ 0 → allReads v ts ≡ 0 → allTargets v ts ≡ 0 → Searching f n t → P.Placed σ t t′ s → D (F (runChildren names m (more t ts) f n value) s) ≡ D (runChildren names m (more t′ ts) f n value s)
   into-first t t′ ts f n s o e k h i z p =
       ap D (first-same σ _ _ (λ s. by-value t ts f n s e) s)
-      ∙ place-first σ t t′ (goesOn m f n value (λ w s′. runOthers names m ts w s′)) s k p (λ x s′. goes-value-only f n t _ z x s′) (λ x u. goes-framed f n ts o h i x u)
+      ∙ place-first σ t t′ (afterFirst m f n value (λ w s′. runOthers names m ts w s′)) s k p (λ x s′. goes-value-only f n t _ z x s′) (λ x u. goes-framed f n ts o h i x u)
       ∙ ap D (sym (by-value t′ ts f n s e))
 
   into-rest : (p : Plan) (t : Tree) (ts ts′ : Trees) (f : Form) (n : Node) (s : S) → Other n → targets v t ≡ 0 → Turns p f → Why s (run names m t (firstRole f n value)) → P.FairsAt σ s ts → P.PlacedAll σ (next p) ts ts′ → D (F (runChildren names m (more t ts) f n value) s) ≡ D (runChildren names m (more t ts′) f n value s)

@@ -14,7 +14,7 @@ use Rattle.theory_runs.specs.Step.{Role, value, target, Origin, ofDeclarator, o
 use Rattle.theory_runs.specs.Meaning.{Meaning}
 use Rattle.theory_runs.specs.Form.{cleared, isMarked, Choice, never, logical, conditional, optionally, Form, constant, name, targetName, leaf, chain, property, importing, sequence, assignment, stepping, form, order, isChain, isPlain, choiceOf, firstRole}
 use Rattle.theory_runs.specs.State.{State, Out, gave, bind}
-use Rattle.theory_runs.specs.Run.{Turn, all, takes, then, resolved, isRead, gathered, chosen, stepped, queued, held, goesOn, own, beside, finished, runNode, run, runChildren, runOthers}
+use Rattle.theory_runs.specs.Run.{Turn, all, takes, then, resolved, isRead, gathered, chosen, stepped, queued, held, afterFirst, own, beside, finished, runNode, run, runChildren, runOthers}
 use Rattle.theory_runs.specs.Script.{isPattern, sets, gives, binds, declaresBare, declaresWith, runDeclarator, runDeclarators, runStatement, runStatements, begin}
 use Rattle.theory_runs.specs.InHand.{sortOf, areValues, isNothing, mayHave}
 use Rattle.theory_runs.specs.Makes.{Asked, choice, step, isMarkedStep, isMade, makesOwn, asks, someTurn, makesIn, makesMarked, makesDeclarator, makesStatement, makes}
@@ -112,9 +112,9 @@ module _ {Value Rest : Type 0} (f : File) (m : Meaning Value Rest) where
   unfolding cutTo
   chooses-cut x s e = rw e
 
-  goesOn-cut : (n : Node) (role : Role) (others : Others) (x : Given Value) (s : S) → (isMade (choiceOf (form n)) ≡ true → makes choice f (stepOf n role (hand-of (form n) n x ∷ [])) ≡ true) → goesOn m (form n) n role others x s ≡ goesOn m′ (form n) n role others x s
-  unfolding goesOn
-  goesOn-cut n role others x s h =
+  afterFirst-cut : (n : Node) (role : Role) (others : Others) (x : Given Value) (s : S) → (isMade (choiceOf (form n)) ≡ true → makes choice f (stepOf n role (hand-of (form n) n x ∷ [])) ≡ true) → afterFirst m (form n) n role others x s ≡ afterFirst m′ (form n) n role others x s
+  unfolding afterFirst
+  afterFirst-cut n role others x s h =
       ap (λ o. bind o (λ hs s′. gave (hand-of (form n) n x ∷ hs) s′))
       (chosen-cut (choiceOf (form n)) _ _ others s (λ e. chooses-cut (stepOf n role (hand-of (form n) n x ∷ [])) s (h e)))
 
@@ -135,9 +135,9 @@ module _ {Value Rest : Type 0} (f : File) (m : Meaning Value Rest) where
     children-cut : (ts : Trees) (n : Node) (role : Role) → Steps n role ts → WithinForest Value f (firstRole (form n) n role) ts → (s : S) → runChildren names m ts (form n) n role s ≡ runChildren names m′ ts (form n) n role s
     children-cut none n role h g s = refl
     children-cut (more t ts) n role h g s =
-        ap (λ o. bind o (goesOn m (form n) n role (λ w s′. runOthers names m ts w s′))) (run-cut t (firstRole (form n) n role) (row-first Value f t ts (firstRole (form n) n role) g) s)
+        ap (λ o. bind o (afterFirst m (form n) n role (λ w s′. runOthers names m ts w s′))) (run-cut t (firstRole (form n) n role) (row-first Value f t ts (firstRole (form n) n role) g) s)
         ∙ ends-same (given-fits Value names m′ t (firstRole (form n) n role) s) (λ x s′ e.
-        goesOn-cut n role (λ w s″. runOthers names m ts w s″) x s′ (λ k. h choice (hand-of (form n) n x ∷ []) k (choice-fits Value names m′ n t ts x e))
+        afterFirst-cut n role (λ w s″. runOthers names m ts w s″) x s′ (λ k. h choice (hand-of (form n) n x ∷ []) k (choice-fits Value names m′ n t ts x e))
         ∙ goes-same m′ (form n) n role (λ w s″. runOthers names m′ ts w s″) (λ w s″. runOthers names m ts w s″) (λ w s″. others-cut ts (row-others Value f t ts (firstRole (form n) n role) g) w s″) x s′)
 
     others-cut : (ts : Trees) → WithinForest Value f value ts → (w : Turn) (s : S) → runOthers names m ts w s ≡ runOthers names m′ ts w s

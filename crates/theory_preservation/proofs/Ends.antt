@@ -9,7 +9,7 @@ use Rattle.theory_runs.specs.Step.{Role, value, Step}
 use Rattle.theory_runs.specs.Meaning.{Meaning}
 use Rattle.theory_runs.specs.Form.{cleared, Choice, never, logical, conditional, optionally, Form, form, childless, isChain, choiceOf, firstRole, originOf}
 use Rattle.theory_runs.specs.State.{Log, State, Out, gave, cut, stop, bind}
-use Rattle.theory_runs.specs.Run.{Turn, all, skipped, second, third, takes, then, kept, caught, gathered, chosen, inTurn, goesOn, own, beside, finished, runNode, run, runChildren, runOthers}
+use Rattle.theory_runs.specs.Run.{Turn, all, skipped, second, third, takes, then, kept, caught, gathered, chosen, inTurn, afterFirst, own, beside, finished, runNode, run, runChildren, runOthers}
 
 -- what holds: P of what is given and the state that is left; C of the state where the chain is cut short; Q if the run stops
 pub data Ends {Value Rest A : Type 0} (P : A → State Value Rest → Type 0) (C : State Value Rest → Type 0) (Q : Type 0) : Out Value Rest A → Type 0 where
@@ -101,9 +101,9 @@ module _ {Value Rest : Type 0} (names : List NameFacts) (m : Meaning Value Rest)
     chosen-ends optionally true others s p h = h all
     chosen-ends optionally false others s p h = cuts p
 
-    goesOn-ends : (f : Form) (n : Node) (role : Role) (others : Turn → State Value Rest → Out Value Rest (List (Given Value))) (x : Given Value) (s : State Value Rest) → B (x .beside) → P s → ((w : Turn) → Left (others w s)) → Hand-ends (goesOn m f n role others x s)
-    unfolding goesOn
-    goesOn-ends f n role others x s b p h = ends-bind (chosen-ends (choiceOf f) _ others s p h) (λ hs s′ p′. gives (along f n (x .beside) b, p′))
+    afterFirst-ends : (f : Form) (n : Node) (role : Role) (others : Turn → State Value Rest → Out Value Rest (List (Given Value))) (x : Given Value) (s : State Value Rest) → B (x .beside) → P s → ((w : Turn) → Left (others w s)) → Hand-ends (afterFirst m f n role others x s)
+    unfolding afterFirst
+    afterFirst-ends f n role others x s b p h = ends-bind (chosen-ends (choiceOf f) _ others s p h) (λ hs s′ p′. gives (along f n (x .beside) b, p′))
 
     mutual
       unfolding run runNode inTurn
@@ -115,7 +115,7 @@ module _ {Value Rest : Type 0} (names : List NameFacts) (m : Meaning Value Rest)
       pub ends-children : (ts : Trees) (f : Form) (n : Node) (role : Role) → Hs ts → (s : State Value Rest) → P s → Hand-ends (runChildren names m ts f n role s)
       ends-children none f n role h s p = gives (tt, p)
       ends-children (more t ts) f n role h s p =
-          ends-bind (ends t (head t ts h) (firstRole f n role) s p) (λ x s′ g. goesOn-ends f n role _ x s′ (g .0) (g .1) (λ w. ends-others ts w (tail t ts h) s′ (g .1)))
+          ends-bind (ends t (head t ts h) (firstRole f n role) s p) (λ x s′ g. afterFirst-ends f n role _ x s′ (g .0) (g .1) (λ w. ends-others ts w (tail t ts h) s′ (g .1)))
 
       pub ends-others : (ts : Trees) (w : Turn) → Hs ts → (s : State Value Rest) → P s → Left (runOthers names m ts w s)
       ends-others none w h s p = gives p

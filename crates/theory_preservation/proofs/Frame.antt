@@ -14,7 +14,7 @@ use Rattle.theory_runs.specs.Step.{Role, value, Step}
 use Rattle.theory_runs.specs.Meaning.{Act, done, stops, Meaning}
 use Rattle.theory_runs.specs.Form.{is, cleared, isMarked, Choice, never, logical, conditional, optionally, Form, constant, name, targetName, leaf, chain, property, importing, sequence, assignment, stepping, form, childless, isChain, choiceOf, firstRole}
 use Rattle.theory_runs.specs.State.{Log, State, Out, gave, cut, stop, bind}
-use Rattle.theory_runs.specs.Run.{Turn, all, skipped, second, third, takes, then, resolved, isRead, kept, listed, acted, caught, gathered, chosen, inTurn, stepped, queued, held, goesOn, own, beside, finished, runNode, run, runChildren, runOthers}
+use Rattle.theory_runs.specs.Run.{Turn, all, skipped, second, third, takes, then, resolved, isRead, kept, listed, acted, caught, gathered, chosen, inTurn, stepped, queued, held, afterFirst, own, beside, finished, runNode, run, runChildren, runOthers}
 use Rattle.theory_runs.specs.Facts.{through, isOfNode}
 use Rattle.theory_preservation.proofs.Words.{within}
 use Rattle.theory_preservation.proofs.Tables.{kindsOf, kinds}
@@ -128,10 +128,10 @@ module _ {Value Rest : Type 0} (names : List NameFacts) (m : Meaning Value Rest)
       rw (own-on f n role (stepOf n role hs) s (of-node n role) k e g (off-through v n role hs e g (first-off v hs h)))
       (shifted-bind φ (own names m f n role (stepOf n role hs) s) _ (λ w s′. gave-on φ s′))
 
-  pub goesOn-on : (f : Form) (n : Node) (role : Role) (others : Turn → State Value Rest → Out Value Rest (List (Given Value))) (x : Given Value) (s : State Value Rest) → (is 4 n ≡ true → eqb (n .label) v ≡ false) → (is 29 n ≡ true → eqb (n .label) v ≡ false) → Off v (x .beside)
-      → ((w : Turn) (s : State Value Rest) → others w (moved φ s) ≡ shifted φ (others w s)) → goesOn m f n role others x (moved φ s) ≡ shifted φ (goesOn m f n role others x s)
-  unfolding goesOn
-  goesOn-on f n role others x s e g h i =
+  pub afterFirst-on : (f : Form) (n : Node) (role : Role) (others : Turn → State Value Rest → Out Value Rest (List (Given Value))) (x : Given Value) (s : State Value Rest) → (is 4 n ≡ true → eqb (n .label) v ≡ false) → (is 29 n ≡ true → eqb (n .label) v ≡ false) → Off v (x .beside)
+      → ((w : Turn) (s : State Value Rest) → others w (moved φ s) ≡ shifted φ (others w s)) → afterFirst m f n role others x (moved φ s) ≡ shifted φ (afterFirst m f n role others x s)
+  unfolding afterFirst
+  afterFirst-on f n role others x s e g h i =
       let h₁ : Given Value = record { value = x .value; beside = kept f n (x .beside) } in
       let z : m .chooses (stepOf n role (h₁ ∷ [])) (moved φ s .store) ≡ m .chooses (stepOf n role (h₁ ∷ [])) (s .store) = (unfold moved in b .chooses (stepOf n role (h₁ ∷ [])) (off-through v n role (h₁ ∷ []) e g (first-off v (h₁ ∷ []) (kept-off v f n (x .beside) h))) (s .store)) in
       rw (z, chosen-on φ (choiceOf f) (m .chooses (stepOf n role (h₁ ∷ [])) (s .store)) others s (λ w. i w s)) (shifted-bind φ _ _ (λ hs s′. gave-on φ s′))
@@ -149,7 +149,7 @@ module _ {Value Rest : Type 0} (names : List NameFacts) (m : Meaning Value Rest)
     frame-children none f n role e i h g s = gave-on φ s
     frame-children (more t ts) f n role e i h g s =
         rw (frame t (omega arith) (omega arith) (firstRole f n role) s)
-        (shifted-ends φ _ (gives-off names m v t (omega arith) (firstRole f n role) s) (λ x s′ p. goesOn-on f n role _ x s′ e i (p .0) (λ w s″. frame-others ts w (omega arith) (omega arith) s″)))
+        (shifted-ends φ _ (gives-off names m v t (omega arith) (firstRole f n role) s) (λ x s′ p. afterFirst-on f n role _ x s′ e i (p .0) (λ w s″. frame-others ts w (omega arith) (omega arith) s″)))
 
     pub frame-others : (ts : Trees) (w : Turn) → allReads v ts ≡ 0 → allTargets v ts ≡ 0 → (s : State Value Rest) → runOthers names m ts w (moved φ s) ≡ shifted φ (runOthers names m ts w s)
     frame-others none w h g s = gave-on φ s

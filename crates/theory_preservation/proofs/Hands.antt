@@ -12,7 +12,7 @@ use Rattle.theory_runs.specs.Step.{Role, value}
 use Rattle.theory_runs.specs.Meaning.{Meaning}
 use Rattle.theory_runs.specs.Form.{is, cleared, Choice, never, logical, conditional, optionally, form, order, childless, isName, isChain, choiceOf, firstRole}
 use Rattle.theory_runs.specs.State.{State, Out, gave}
-use Rattle.theory_runs.specs.Run.{Turn, all, skipped, second, third, takes, then, kept, caught, gathered, chosen, inTurn, goesOn, own, beside, finished, runNode, run, runChildren, runOthers}
+use Rattle.theory_runs.specs.Run.{Turn, all, skipped, second, third, takes, then, kept, caught, gathered, chosen, inTurn, afterFirst, own, beside, finished, runNode, run, runChildren, runOthers}
 use Rattle.theory_runs.specs.InHand.{sortOf, sameBeside, isNothing, besideOf, firstOf, mayKeep, areValues, mayHave}
 use Rattle.theory_runs.specs.Makes.{Asked, choice, step, someTurn}
 use Rattle.theory_preservation.proofs.Tests.{by-or, or-left, or-right}
@@ -158,9 +158,9 @@ module _ (Value : Type 0) (names : List NameFacts) where
     unfolding someTurn
     choice-fits n t ts x e = keeps-first n skipped t ts x [] e (none-skipped ts)
 
-    goesOn-fits : (n : Node) (t : Tree) (ts : Trees) (role : Role) (others : Turn → State Value Rest → Out Value Rest (Hand Value)) (x : Given Value) (s : State Value Rest) → Gives t (x .beside) → ((w : Turn) → Values w ts (others w s)) → Hand-fits n (more t ts) (goesOn m (form n) n role others x s)
-    unfolding goesOn
-    goesOn-fits n t ts role others x s e h =
+    afterFirst-fits : (n : Node) (t : Tree) (ts : Trees) (role : Role) (others : Turn → State Value Rest → Out Value Rest (Hand Value)) (x : Given Value) (s : State Value Rest) → Gives t (x .beside) → ((w : Turn) → Values w ts (others w s)) → Hand-fits n (more t ts) (afterFirst m (form n) n role others x s)
+    unfolding afterFirst
+    afterFirst-fits n t ts role others x s e h =
         ends-bind (chosen-fit ts (choiceOf (form n)) _ others s h) (λ hs s′ g.
         gives (keeps n t (x .beside) e, λ q k. turn-on (step k) (choiceOf (form n)) (λ w. areValues w ts hs) (λ w. mayHave names n w (more t ts) (hand-of (form n) n x ∷ hs)) (λ w z. keeps-first n w t ts x hs e z) (g k)))
 
@@ -202,4 +202,4 @@ module _ (Value : Type 0) (names : List NameFacts) where
 
       pub hand-fits : (ts : Trees) (n : Node) (role : Role) (s : State Value Rest) → Hand-fits n ts (runChildren names m ts (form n) n role s)
       hand-fits none n role s = gives (tt, λ q k. turn-any (step k) (choiceOf (form n)) (λ w. mayHave names n w none []) (λ w. no-children n w))
-      hand-fits (more t ts) n role s = ends-bind (given-fits t (firstRole (form n) n role) s) (λ x s′ e. goesOn-fits n t ts role _ x s′ e (λ w. others-fit ts w s′))
+      hand-fits (more t ts) n role s = ends-bind (given-fits t (firstRole (form n) n role) s) (λ x s′ e. afterFirst-fits n t ts role _ x s′ e (λ w. others-fit ts w s′))

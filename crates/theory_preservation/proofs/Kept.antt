@@ -19,7 +19,7 @@ use Rattle.theory_runs.specs.Step.{Role, value, Step}
 use Rattle.theory_runs.specs.Meaning.{Act, done, stops, Meaning}
 use Rattle.theory_runs.specs.Form.{is, cleared, isMarked, Choice, never, logical, conditional, optionally, Form, constant, name, targetName, leaf, chain, property, importing, sequence, assignment, stepping, form, order, childless, isChain, choiceOf, firstRole, originOf}
 use Rattle.theory_runs.specs.State.{Log, State, Out, gave, cut, stop}
-use Rattle.theory_runs.specs.Run.{Turn, all, skipped, second, third, takes, then, resolved, acted, caught, gathered, chosen, inTurn, stepped, queued, held, goesOn, own, finished, runNode, run, runChildren, runOthers}
+use Rattle.theory_runs.specs.Run.{Turn, all, skipped, second, third, takes, then, resolved, acted, caught, gathered, chosen, inTurn, stepped, queued, held, afterFirst, own, finished, runNode, run, runChildren, runOthers}
 use Rattle.theory_runs.specs.Facts.{through, isOfNode}
 use Rattle.theory_preservation.proofs.Tables.{kindsOf, kinds, marked-cleared, link-cleared, name-form}
 use Rattle.theory_preservation.proofs.Ends.{Ends, gives, halts, ends-bind, ends-cond, ends-map, First, stepOf, ends, ends-children}
@@ -223,9 +223,9 @@ module _ {Value Rest : Type 0} (names : List NameFacts) (m : Meaning Value Rest)
   chosen-whole conditional false others s e h = h third
   chosen-whole optionally b others s e h = clash true e refl
 
-  goesOn-whole : (f : Form) (n : Node) (role : Role) (others : Turn → State Value Rest → Out Value Rest (List (Given Value))) (x : Given Value) (s : State Value Rest) → cutting (choiceOf f) ≡ false → ((w : Turn) → Whole (others w s)) → Whole (goesOn m f n role others x s)
-  unfolding goesOn
-  goesOn-whole f n role others x s e h = ends-bind (chosen-whole (choiceOf f) _ others s e h) (λ hs s′ p. gives tt)
+  afterFirst-whole : (f : Form) (n : Node) (role : Role) (others : Turn → State Value Rest → Out Value Rest (List (Given Value))) (x : Given Value) (s : State Value Rest) → cutting (choiceOf f) ≡ false → ((w : Turn) → Whole (others w s)) → Whole (afterFirst m f n role others x s)
+  unfolding afterFirst
+  afterFirst-whole f n role others x s e h = ends-bind (chosen-whole (choiceOf f) _ others s e h) (λ hs s′ p. gives tt)
 
   -- an optional node is unchained
   uncut-by : (f : Form) (n : Node) → kindsOf f n ≡ true → (isChainElement (n .kind) && optional (n .flags)) ≡ false → cutting (choiceOf f) ≡ false
@@ -313,7 +313,7 @@ module _ {Value Rest : Type 0} (names : List NameFacts) (m : Meaning Value Rest)
     whole-children none f n role p c h g l s = gives tt
     whole-children (more t ts) f n role p c h g l s =
         let (a, b, d) = after-first p t ts h g in
-        ends-bind (whole t a (firstly t ts l) (firstRole f n role) s) (λ x s′ u. goesOn-whole f n role _ x s′ c (λ w. whole-others ts w p 0 b d s′))
+        ends-bind (whole t a (firstly t ts l) (firstRole f n role) s) (λ x s′ u. afterFirst-whole f n role _ x s′ c (λ w. whole-others ts w p 0 b d s′))
 
     whole-others : (ts : Trees) (w : Turn) (p : Node) (i : ℕ) → standUnder p (i + 1) ts ≡ true → allPlaced ts ≡ true → (s : State Value Rest) → Whole (runOthers names m ts w s)
     whole-others none w p i h g s = gives tt

@@ -9,7 +9,7 @@ use Rattle.theory_runs.specs.Step.{Role, value}
 use Rattle.theory_runs.specs.Meaning.{Meaning}
 use Rattle.theory_runs.specs.Form.{Choice, never, logical, conditional, optionally, Form, choiceOf, firstRole}
 use Rattle.theory_runs.specs.State.{State, Out, gave, bind}
-use Rattle.theory_runs.specs.Run.{Turn, all, skipped, second, third, takes, then, kept, chosen, inTurn, goesOn, runNode, run, runChildren, runOthers}
+use Rattle.theory_runs.specs.Run.{Turn, all, skipped, second, third, takes, then, kept, chosen, inTurn, afterFirst, runNode, run, runChildren, runOthers}
 use Rattle.theory_preservation.proofs.Passing.{bind-same}
 
 -- what a node has in hand of its first child
@@ -31,8 +31,8 @@ module _ {Value Rest : Type 0} where
   chosen-same optionally true cs cs′ s h = h all
   chosen-same optionally false cs cs′ s h = refl
 
-  pub goes-same : (m : Meaning Value Rest) (f : Form) (n : Node) (role : Role) (cs cs′ : Turn → State Value Rest → Out Value Rest (List (Given Value))) → ((w : Turn) (s : State Value Rest) → cs′ w s ≡ cs w s) → (x : Given Value) (s : State Value Rest) → goesOn m f n role cs′ x s ≡ goesOn m f n role cs x s
-  unfolding goesOn
+  pub goes-same : (m : Meaning Value Rest) (f : Form) (n : Node) (role : Role) (cs cs′ : Turn → State Value Rest → Out Value Rest (List (Given Value))) → ((w : Turn) (s : State Value Rest) → cs′ w s ≡ cs w s) → (x : Given Value) (s : State Value Rest) → afterFirst m f n role cs′ x s ≡ afterFirst m f n role cs x s
+  unfolding afterFirst
   goes-same m f n role cs cs′ h x s = ap (λ o. bind o (λ hs s′. gave (hand-of f n x ∷ hs) s′)) (chosen-same (choiceOf f) _ cs cs′ s (λ w. h w s))
 
 module _ {Value Rest : Type 0} (names : List NameFacts) (m : Meaning Value Rest) where
@@ -43,7 +43,7 @@ module _ {Value Rest : Type 0} (names : List NameFacts) (m : Meaning Value Rest)
   pub children-same : (t t′ : Tree) (ts ts′ : Trees) (f : Form) (n : Node) → ((role : Role) (s : State Value Rest) → run names m t′ role s ≡ run names m t role s) → ((w : Turn) (s : State Value Rest) → runOthers names m ts′ w s ≡ runOthers names m ts w s) → (role : Role) (s : State Value Rest) → runChildren names m (more t′ ts′) f n role s ≡ runChildren names m (more t ts) f n role s
   unfolding run
   children-same t t′ ts ts′ f n h g role s =
-      ap (λ o. bind o (goesOn m f n role (λ w s′. runOthers names m ts′ w s′))) (h (firstRole f n role) s)
+      ap (λ o. bind o (afterFirst m f n role (λ w s′. runOthers names m ts′ w s′))) (h (firstRole f n role) s)
       ∙ bind-same (run names m t (firstRole f n role) s) _ _ (λ x s′. goes-same m f n role (λ w s″. runOthers names m ts w s″) (λ w s″. runOthers names m ts′ w s″) g x s′)
 
   pub node-same : (f : Form) (n : Node) (role : Role) (cs cs′ : State Value Rest → Out Value Rest (List (Given Value))) → ((s : State Value Rest) → cs′ s ≡ cs s) → (s : State Value Rest) → runNode names m f n role cs′ s ≡ runNode names m f n role cs s

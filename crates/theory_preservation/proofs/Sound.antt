@@ -22,7 +22,7 @@ use Rattle.theory_runs.specs.Hand.{Given, only, lastOr}
 use Rattle.theory_runs.specs.Step.{value, target}
 use Rattle.theory_runs.specs.Form.{is, cleared, isDelete, Form, chain, property, importing, sequence, assignment, stepping, never, logical, conditional, optionally, form, order, childless, isName, isChain, isPlain, isAssignment, choiceOf, firstRole}
 use Rattle.theory_runs.specs.State.{State, Out, gave, cut, stop, bind}
-use Rattle.theory_runs.specs.Run.{Turn, all, skipped, second, third, takes, then, kept, gathered, chosen, inTurn, goesOn, own, beside, finished, runNode, run, runChildren}
+use Rattle.theory_runs.specs.Run.{Turn, all, skipped, second, third, takes, then, kept, gathered, chosen, inTurn, afterFirst, own, beside, finished, runNode, run, runChildren}
 use Rattle.theory_preservation.proofs.Tests.{and-then}
 use Rattle.theory_preservation.proofs.Tables.{choosing, formOf, shapeKinds, shape-kinds}
 use Rattle.theory_preservation.proofs.Ends.{cuts, ends-any}
@@ -90,7 +90,7 @@ module _ {Value Rest : Type 0} (σ : Setting Value Rest) where
   aside p t = node (record { kind = 28; flags = 0; label = 0; position = p }) (more (node (record { kind = 1; flags = 0; label = 65535; position = p }) none) (more t none))
 
   aside-case : (p : ℕ) (t : Tree) (s : S) (o : O (Given Value)) → go t s ≡ o → go (aside p t) s ≡ over bared (go t s)
-  unfolding run runNode form cleared gathered childless isChain isName isPlain isDelete order choiceOf firstRole goesOn chosen takes then inTurn finished own beside kept lastOr bind over
+  unfolding run runNode form cleared gathered childless isChain isName isPlain isDelete order choiceOf firstRole afterFirst chosen takes then inTurn finished own beside kept lastOr bind over
   aside-case p t s (gave x s′) e = rw e
   aside-case p t s (cut s′) e = rw e
   aside-case p t s (stop l) e = rw e

@@ -16,7 +16,7 @@ use Rattle.theory_runs.specs.Step.{value, target, deleted, Origin, ofNod
 use Rattle.theory_runs.specs.Meaning.{done, stops, Meaning}
 use Rattle.theory_runs.specs.Form.{cleared, isMarked, isMember, isDelete, form, order, childless, isName, isChain, isPlain, isAssignment, choiceOf, firstRole, originOf}
 use Rattle.theory_runs.specs.State.{bind}
-use Rattle.theory_runs.specs.Run.{takes, then, isRead, kept, listed, acted, caught, gathered, chosen, inTurn, stepped, queued, held, goesOn, own, beside, finished, runNode, run}
+use Rattle.theory_runs.specs.Run.{takes, then, isRead, kept, listed, acted, caught, gathered, chosen, inTurn, stepped, queued, held, afterFirst, own, beside, finished, runNode, run}
 use Rattle.theory_runs.specs.Script.{sets, binds, declaresBare, declaresWith, runDeclarator, runDeclarators, gives, runStatement, runStatements, stopped, ended, Ran, whole, ran, begin}
 
 -- Trees: a node by its kind, flags, label and children.
@@ -97,7 +97,7 @@ clock = record {
 
 -- The run of some statements; name a has the value 10 + a, but name 0 has 0; the time is 1.
 unfoldable clocked : List Statement → Ran ℕ ℕ
-unfolding cleared isMarked isMember isDelete form order childless isName isChain isPlain isAssignment choiceOf firstRole originOf bind takes then isRead kept listed acted caught gathered chosen inTurn stepped queued held goesOn own beside finished runNode run sets binds declaresBare declaresWith runDeclarator runDeclarators gives runStatement runStatements whole ran begin firstOr lastOr set flagsOf isTarget assigns labelOf isAssign clock
+unfolding cleared isMarked isMember isDelete form order childless isName isChain isPlain isAssignment choiceOf firstRole originOf bind takes then isRead kept listed acted caught gathered chosen inTurn stepped queued held afterFirst own beside finished runNode run sets binds declaresBare declaresWith runDeclarator runDeclarators gives runStatement runStatements whole ran begin firstOr lastOr set flagsOf isTarget assigns labelOf isAssign clock
 clocked ss = ran (runStatements facts clock ss (begin (record { names = λ a. cond (eqb a 0) 0 (10 + a); rest = 1 })))
 
 -- A marked step of kind, flags and label with this in hand.

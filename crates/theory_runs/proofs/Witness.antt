@@ -21,7 +21,7 @@ use Rattle.theory_runs.specs.Step.{Role, value, target, Origin, ofNode, 
 use Rattle.theory_runs.specs.Meaning.{Act, done, stops, Meaning}
 use Rattle.theory_runs.specs.Form.{cleared, isMarked, isMember, isDelete, form, order, childless, isName, isChain, isPlain, isAssignment, choiceOf, firstRole, originOf}
 use Rattle.theory_runs.specs.State.{State, Out, gave, cut, stop, bind}
-use Rattle.theory_runs.specs.Run.{takes, then, isRead, kept, listed, acted, caught, gathered, chosen, inTurn, stepped, queued, held, goesOn, own, beside, finished, runNode, run}
+use Rattle.theory_runs.specs.Run.{takes, then, isRead, kept, listed, acted, caught, gathered, chosen, inTurn, stepped, queued, held, afterFirst, own, beside, finished, runNode, run}
 use Rattle.theory_runs.specs.Script.{sets, binds, declaresBare, declaresWith, runDeclarator, runDeclarators, gives, runStatement, runStatements, Ran, whole, ran, begin, runFile}
 use Rattle.theory_runs.specs.Shapes.{someIn, declaredIn, shapeP, firstDeclared, shapeQ, evalWhole, someEval, shapeR, shapeS}
 use Rattle.theory_runs.specs.InHand.{sortOf, sameBeside, isNothing, besideOf, mayKeep, areValues, mayHave}
@@ -155,7 +155,7 @@ storeOf stops u = u
 
 -- what a run comes to, computed
 unfoldable runs : Meaning ℕ Bench → Tree → Role → State ℕ Bench → Out ℕ Bench (Given ℕ)
-unfolding cleared isMarked isMember isDelete form order childless isName isChain isPlain isAssignment choiceOf firstRole originOf bind takes then isRead kept listed acted caught gathered chosen inTurn stepped queued held goesOn own beside finished runNode run firstOr lastOr set flagsOf callee looks changes halts isTargetOf aims throughBy writes isDirect isFree acts bench
+unfolding cleared isMarked isMember isDelete form order childless isName isChain isPlain isAssignment choiceOf firstRole originOf bind takes then isRead kept listed acted caught gathered chosen inTurn stepped queued held afterFirst own beside finished runNode run firstOr lastOr set flagsOf callee looks changes halts isTargetOf aims throughBy writes isDirect isFree acts bench
 runs free t role s = run facts (bench free) t role s
 
 unfoldable ran-of : Meaning ℕ Bench → File → Ran ℕ Bench

@@ -113,8 +113,8 @@ module _ {Value Rest : Type 0} (m : Meaning Value Rest) where
   held false n x s = stepped (isMarked n) x s
 
   -- when the first child has run: the choice, then the other children
-  unfoldable pub goesOn : Form → Node → Role → (Turn → Part Value Rest (Hand Value)) → Given Value → Part Value Rest (Hand Value)
-  goesOn f n role others x s =
+  unfoldable pub afterFirst : Form → Node → Role → (Turn → Part Value Rest (Hand Value)) → Given Value → Part Value Rest (Hand Value)
+  afterFirst f n role others x s =
       let h : Given Value = record { value = x .value; beside = kept f n (x .beside) } in
       bind (chosen (choiceOf f) (m .chooses (record { origin = originOf n role; hand = h ∷ [] }) (s .store)) others s)
       (λ hs s′. gave (h ∷ hs) s′)
@@ -157,7 +157,7 @@ module _ {Value Rest : Type 0} (names : List NameFacts) (m : Meaning Value Rest)
 
     pub runChildren : Trees → Form → Node → Role → Part Value Rest (Hand Value)
     runChildren none f n role s = gave [] s
-    runChildren (more t ts) f n role s = bind (run t (firstRole f n role) s) (goesOn m f n role (λ w s′. runOthers ts w s′))
+    runChildren (more t ts) f n role s = bind (run t (firstRole f n role) s) (afterFirst m f n role (λ w s′. runOthers ts w s′))
 
     pub runOthers : Trees → Turn → Part Value Rest (Hand Value)
     runOthers none w s = gave [] s

@@ -1,11 +1,11 @@
 -- Blocks and records that are written, and a tag that moves for two of them. Assumes nothing.
-use mathlib.Core.Path.{_≡_, refl, sym, ap, _∙_}
-use mathlib.Core.List.{List, _++_, append-assoc, append-nil}
+use mathlib.Core.Path.{_≡_, refl, ap, _∙_}
+use mathlib.Core.List.{List, _++_, append-assoc}
 use Prim.Native.Nat.{ℕ, _+_, _-_}
 use native.Mathlib.Omega.{arith}
 use borrow.Rule.Slice.PartMut.{midOf, putMid}
-use lib.ListN.{length, take, drop, length-append, length-drop, take-append-drop, drop-of-length-le}
-use lib.Seq.{take-at, drop-at, take-all, take-length, length-take-le}
+use lib.ListN.{length, take, drop, length-append}
+use lib.Seq.{take-length}
 use Rattle.records_table.specs.Table.{workBytes}
 use Rattle.records_table.proofs.Laid.{work-length}
 use Rattle.records_table.specs.Overwrites.{Overwrites}
