@@ -54,8 +54,16 @@ typedef struct {
                         with 0 folds: a shorthand may be written out, an empty declaration go */
 } WsfAnswer;
 
+typedef struct {
+    uint64_t number; /* WSF_FOLDED, or the row that refuses the file */
+    uint64_t length; /* bytes of the last result at the start of the output; 0 if refused */
+    uint64_t folds;  /* declarators that are gone, by all runs; 0 if refused */
+    uint64_t runs;   /* runs made, the last one counted, which changed nothing: at least 1, at most
+                        2 more than the file has declarators; 0 if refused */
+} WsfSteady;
+
 /*
- * Folds the file and writes the result to the start of the output.
+ * What holds of both calls:
  *
  * The output is as it was past the result; all of it, if the file is refused. The file is only read.
  *
@@ -68,7 +76,17 @@ typedef struct {
  *
  * Stack: 2 MB below the call are enough. The size is measured, not proved (docs/EMBEDDING.md).
  */
+
+/* Folds the file and writes the result to the start of the output. Folding the result may fold more. */
 WsfAnswer wsf_fold(const uint8_t *file, size_t file_length, uint8_t *output, size_t output_length);
+
+/*
+ * Folds the file, then each result, until a run changes nothing, and writes the last result to the
+ * start of the output. It refuses what wsf_fold refuses, and wants the same room. A further call of
+ * either function changes nothing.
+ */
+WsfSteady wsf_fold_until_steady(const uint8_t *file, size_t file_length, uint8_t *output,
+                                size_t output_length);
 
 #ifdef __cplusplus
 }

@@ -29,6 +29,17 @@ pub struct Folded {
     pub folds: usize,
 }
 
+/// A file was folded until a run changed nothing.
+#[derive(Clone, Copy, PartialEq, Eq, Debug)]
+pub struct Steady {
+    /// The last result is so many bytes at the start of the output.
+    pub length: usize,
+    /// So many declarators are gone, by all runs.
+    pub folds: usize,
+    /// So many runs were made, the last one counted, which changed nothing.
+    pub runs: usize,
+}
+
 /// Folds the file and writes the result to the start of the output. What stands behind the result
 /// stays as it was; so does the whole output if the file is refused.
 pub fn fold(file: &[u8], output: &mut [u8]) -> Result<Folded, Refusal> {
@@ -36,13 +47,31 @@ pub fn fold(file: &[u8], output: &mut [u8]) -> Result<Folded, Refusal> {
     // apart. `wsf_fold` asks no more.
     let answer =
         unsafe { raw::wsf_fold(file.as_ptr(), file.len(), output.as_mut_ptr(), output.len()) };
-    match answer.number {
-        0 => Ok(Folded { length: size(answer.length), folds: size(answer.folds) }),
-        number => Err(Refusal::of_number(number).expect("the library returns 0 to 11")),
+    accepted(answer.number)?;
+    Ok(Folded { length: size(answer.length), folds: size(answer.folds) })
+}
+
+/// Folds the file, then each result, until a run changes nothing, and writes the last result to the
+/// start of the output. It refuses what `fold` refuses and wants the same room. What stands behind
+/// the last result stays as it was; so does the whole output if the file is refused.
+pub fn fold_until_steady(file: &[u8], output: &mut [u8]) -> Result<Steady, Refusal> {
+    let (to, room) = (output.as_mut_ptr(), output.len());
+    // SAFETY: as in `fold`.
+    let answer = unsafe { raw::wsf_fold_until_steady(file.as_ptr(), file.len(), to, room) };
+    accepted(answer.number)?;
+    let [length, folds, runs] = [answer.length, answer.folds, answer.runs].map(size);
+    Ok(Steady { length, folds, runs })
+}
+
+/// What a returned number says.
+fn accepted(number: u64) -> Result<(), Refusal> {
+    match number {
+        0 => Ok(()),
+        row => Err(Refusal::of_number(row).expect("the library returns 0 to 11")),
     }
 }
 
-/// The room that the fold of this file wants: its length and 8 bytes a declarator. Never more than
+/// The room that a call wants for this file: its length and 8 bytes a declarator. Never more than
 /// `MOST_ROOM`, which is enough for every accepted file.
 pub fn room_for(file: &[u8]) -> usize {
     let declarators = match file.get(DECLARATORS_AT..DECLARATORS_AT + 2) {

@@ -1,4 +1,4 @@
-//! The function of the library as it stands: what `include/wsf.h` declares.
+//! The functions of the library as they stand: what `include/wsf.h` declares.
 
 /// What `wsf_fold` returns.
 #[repr(C)]
@@ -10,6 +10,20 @@ pub struct WsfAnswer {
     pub length: u64,
     /// How many declarators were folded; 0 for a refusal.
     pub folds: u64,
+}
+
+/// What `wsf_fold_until_steady` returns.
+#[repr(C)]
+#[derive(Clone, Copy, PartialEq, Eq, Debug)]
+pub struct WsfSteady {
+    /// 0 if the file was folded, else the number of the row that refuses it, 1 to 11.
+    pub number: u64,
+    /// How many bytes of the output are the last result; 0 for a refusal.
+    pub length: u64,
+    /// How many declarators all runs folded; 0 for a refusal.
+    pub folds: u64,
+    /// How many runs were made, the last one counted, which changed nothing; 0 for a refusal.
+    pub runs: u64,
 }
 
 unsafe extern "C" {
@@ -25,4 +39,16 @@ unsafe extern "C" {
         output: *mut u8,
         output_length: usize,
     ) -> WsfAnswer;
+
+    /// Folds a file until a run changes nothing.
+    ///
+    /// # Safety
+    ///
+    /// As for `wsf_fold`.
+    pub fn wsf_fold_until_steady(
+        file: *const u8,
+        file_length: usize,
+        output: *mut u8,
+        output_length: usize,
+    ) -> WsfSteady;
 }

@@ -1,7 +1,10 @@
-//! `let v = 1;` and a tree of some 2,990 nodes, as deep as its kind allows, with `v` within, folded on a thread of 2 MB, which is what
-//! Rust gives a thread unless told otherwise.
+//! `let v = 1;` and a tree of some 2,990 nodes, as deep as its kind allows, with `v` within, folded
+//! on a thread of 2 MB, which is what Rust gives a thread unless told otherwise.
 
-use wsf::{Folded, fold, room_for};
+mod made;
+
+use made::{LITERAL, NAME, file, record};
+use wsf::{Folded, Steady, fold, fold_until_steady, room_for};
 
 const STACK_BYTES: usize = 2 << 20;
 const NODES: usize = 2990;
@@ -36,28 +39,6 @@ const LEVELS: [Level; 20] = [
     &[(21, 2), (7, 0)],
 ];
 
-const LITERAL: u8 = 1;
-const NAME: u8 = 4;
-
-fn record(kind: u8, children: u8, position: u8) -> [u8; 12] {
-    [kind, 0, 0, 0, children, 0, 0, 0, position, 0, 0, 0]
-}
-
-/// A file with one name, which is read once, one scope, and these nodes.
-fn file(nodes: &[[u8; 12]], declarators: &[[u8; 4]], statements: &[[u8; 4]]) -> Vec<u8> {
-    let mut file = b"WSF\0".to_vec();
-    let counts = [1, 1, 1, 0, nodes.len(), declarators.len(), statements.len()];
-    for count in counts.into_iter().chain([0, 65535, 0]) {
-        file.extend(u16::try_from(count).expect("a count fits").to_le_bytes());
-    }
-    file.extend([17, 0, 0, 0, 1, 0, 0, 0, 0, 0, 0, 0]);
-    file.extend([255, 255, 0, 0]);
-    file.extend(nodes.as_flattened());
-    file.extend(declarators.as_flattened());
-    file.extend(statements.as_flattened());
-    file
-}
-
 /// As many levels as fit, with this node within the last.
 fn nest(level: Level, within: [u8; 12]) -> Vec<[u8; 12]> {
     let before: Vec<_> = level.iter().map(|&(kind, children)| record(kind, children, 7)).collect();
@@ -66,17 +47,27 @@ fn nest(level: Level, within: [u8; 12]) -> Vec<[u8; 12]> {
     nodes
 }
 
+const BEFORE: u8 = 0xa5;
+
 fn check(level: Level) {
     let (declaration, expression) = ([1, 0, 1, 0], [5, 0, 0, 0]);
     let mut nodes = vec![record(LITERAL, 0, 3)];
     nodes.extend(nest(level, record(NAME, 0, 9)));
-    let before = file(&nodes, &[[0, 0, 1, 0]], &[declaration, expression]);
-    let after = file(&nest(level, record(LITERAL, 0, 9)), &[], &[expression]);
-    let mut output = vec![0xa5; room_for(&before)];
+    let before = file(1, &nodes, &[[0, 0, 1, 0]], &[declaration, expression]);
+    let after = file(1, &nest(level, record(LITERAL, 0, 9)), &[], &[expression]);
+    let mut output = vec![BEFORE; room_for(&before)];
     let folded = fold(&before, &mut output);
     assert_eq!(folded, Ok(Folded { length: after.len(), folds: 1 }), "{level:?}");
-    assert!(output[..after.len()] == after, "{level:?}");
-    assert!(output[after.len()..].iter().all(|&byte| byte == 0xa5), "{level:?}");
+    check_output(&output, &after, level);
+    output.fill(BEFORE);
+    let steady = fold_until_steady(&before, &mut output);
+    assert_eq!(steady, Ok(Steady { length: after.len(), folds: 1, runs: 2 }), "{level:?}");
+    check_output(&output, &after, level);
+}
+
+fn check_output(output: &[u8], result: &[u8], level: Level) {
+    assert!(output[..result.len()] == *result, "{level:?}");
+    assert!(output[result.len()..].iter().all(|&byte| byte == BEFORE), "{level:?}");
 }
 
 #[test]

@@ -1,15 +1,10 @@
-//! Each row of the table: a script with one thing changed is refused with the row's number, and the
-//! output stays as it was.
+//! Each row of the table: a script with one thing changed is refused with the row's number, by both
+//! calls, and the output stays as it was.
 
-use std::fs;
-use std::path::PathBuf;
+mod kept;
 
-use wsf::{Refusal, fold, room_for};
-
-fn script(number: usize) -> Vec<u8> {
-    let directory = PathBuf::from(env!("CARGO_MANIFEST_DIR")).join("../reference/scripts");
-    fs::read(directory.join(format!("{number:02}.wsf"))).expect("the script is there")
-}
+use kept::script;
+use wsf::{Refusal, fold, fold_until_steady, room_for};
 
 /// A count of the header: names, scopes, frames, nodes, declarators, statements.
 fn count(file: &[u8], part: usize) -> usize {
@@ -31,6 +26,7 @@ fn check(file: &[u8], room: usize, row: Refusal) {
     let before: Vec<u8> = (0..room).map(|at| u8::try_from(at % 251).expect("it fits")).collect();
     let mut output = before.clone();
     assert_eq!(fold(file, &mut output), Err(row));
+    assert_eq!(fold_until_steady(file, &mut output), Err(row));
     assert_eq!(output, before, "{row}");
 }
 

@@ -1,8 +1,8 @@
 //! The twelve scripts of `reference/scripts`, with their results.
 
-use std::fs;
-use std::path::PathBuf;
+mod kept;
 
+use kept::{kept, script};
 use wsf::{Folded, Refusal, fold, room_for};
 
 /// How many declarators of each script are folded.
@@ -11,14 +11,9 @@ const FOLDS: [usize; 12] = [1, 0, 0, 0, 1, 0, 1, 0, 1, 0, 2, 3];
 /// What the output holds before a fold.
 const BEFORE: u8 = 0xa5;
 
-fn script(number: usize, ending: &str) -> Vec<u8> {
-    let directory = PathBuf::from(env!("CARGO_MANIFEST_DIR")).join("../reference/scripts");
-    fs::read(directory.join(format!("{number:02}{ending}.wsf"))).expect("the script is there")
-}
-
 fn each_script(check: impl Fn(&[u8], &[u8], usize)) {
     for (number, folds) in (1..).zip(FOLDS) {
-        check(&script(number, ""), &script(number, "-result"), folds);
+        check(&script(number), &kept(&format!("{number:02}-result")), folds);
     }
 }
 

@@ -13,6 +13,7 @@ use crate::generate::nests::plain_nests;
 use crate::generate::random_file::random_file;
 use crate::generate::refusals::refusals;
 use crate::generate::rules::{Rule, rules};
+use crate::generate::runs::run_cases;
 use crate::generate::shapes::{Shape, shapes};
 use crate::record::{Node, RecordFile, kind};
 use crate::scripts::scripts;
@@ -40,7 +41,10 @@ pub struct List {
 /// The kept lists: the answers of the fold, and the whole tables of refusals and limits.
 pub fn lists() -> [List; 2] {
     [
-        List { paths: &["answers/answers.bin", "../crates/replay_folds/stdin"], cases: answer_cases() },
+        List {
+            paths: &["answers/answers.bin", "../crates/replay_folds/stdin"],
+            cases: answer_cases(),
+        },
         List {
             paths: &["../crates/replay_refusals/stdin"],
             cases: refusals().into_iter().chain(limits()).collect(),
@@ -54,6 +58,7 @@ fn answer_cases() -> Vec<Case> {
     cases.extend(scripts().iter().map(|it| Case::of_records(it.text, &it.file)));
     cases.extend(rules().iter().map(Rule::case));
     cases.extend(shapes().iter().map(Shape::case));
+    cases.extend(run_cases());
     cases.extend(refusal_cases());
     cases.extend(limits().into_iter().filter(|case| !case.bulk));
     cases.extend(plain_nests().iter().map(|(what, file)| Case::of_records(what, file)));

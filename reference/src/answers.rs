@@ -2,10 +2,12 @@
 
 use crate::fold::{Answer, fold};
 use crate::generate::case::Case;
+use crate::steady::{Steady, fold_until_steady};
 
 /// Lengths after which a stretch of bytes may repeat: one record, and two or three of them.
 const PERIODS: [usize; 5] = [4, 8, 12, 24, 36];
-/// Stands for the result's length where the file itself comes back.
+/// Stands for the length of a result that is the bytes before it: of the fold's, if it is the file
+/// itself, of the repeat's, if it is the fold's.
 const SAME: u32 = u32::MAX;
 /// A repetition is worth a segment of its own from so many bytes on.
 const WORTHWHILE: usize = 64;
@@ -64,35 +66,40 @@ fn write_bytes(bytes: &[u8], out: &mut Vec<u8>) {
     }
 }
 
-/// Puts the case and its answer behind the entries written so far.
-pub fn write_entry(case: &Case, answer: &Answer, out: &mut Vec<u8>) {
+/// Puts the case, its answer and what the repeat gives behind the entries written so far.
+pub fn write_entry(case: &Case, out: &mut Vec<u8>) {
+    let answer = fold(&case.file, case.room);
+    let steady = fold_until_steady(&case.file, case.room);
     out.extend(number(case.room));
     out.extend(answer.number.to_le_bytes());
     out.extend(answer.folds.to_le_bytes());
     out.extend(number(usize::try_from(answer.looks).expect("it fits")));
     out.extend(number(case.file.len()));
-    let same = answer.number == 0 && answer.result == case.file;
-    out.extend(if same { SAME.to_le_bytes() } else { number(answer.result.len()) });
-    write_bytes(&case.file, out);
-    if !same {
-        write_bytes(&answer.result, out);
-    }
+    let accepted = answer.number == 0;
+    let result = (!accepted || answer.result != case.file).then_some(&answer.result);
+    let last = (!accepted || steady.result != answer.result).then_some(&steady.result);
+    let length = |bytes: Option<&Vec<u8>>| bytes.map_or(SAME.to_le_bytes(), |it| number(it.len()));
+    out.extend(length(result));
+    out.extend(steady.folds.to_le_bytes());
+    out.extend(steady.runs.to_le_bytes());
+    out.extend(length(last));
+    let parts = [Some(&case.file), result, last];
+    parts.into_iter().flatten().for_each(|bytes| write_bytes(bytes, out));
 }
 
 /// The entries of these cases.
 pub fn entries(cases: &[Case]) -> Vec<u8> {
     let mut out = Vec::new();
-    for case in cases {
-        write_entry(case, &fold(&case.file, case.room), &mut out);
-    }
+    cases.iter().for_each(|case| write_entry(case, &mut out));
     out
 }
 
 /// An entry taken apart again.
 struct Entry {
     room: usize,
-    answer: Answer,
     file: Vec<u8>,
+    answer: Answer,
+    steady: Steady,
 }
 
 /// Reads entries until the bytes end.
@@ -120,16 +127,27 @@ impl Reader<'_> {
         (out.len() == length).then_some(out)
     }
 
+    /// So many bytes, or those before them.
+    fn bytes_or(&mut self, length: usize, before: &[u8]) -> Option<Vec<u8>> {
+        let same = u32::try_from(length) == Ok(SAME);
+        if same { Some(before.to_vec()) } else { self.bytes(length) }
+    }
+
+    fn count(&mut self) -> Option<u32> {
+        u32::try_from(self.number()?).ok()
+    }
+
     fn entry(&mut self) -> Option<Entry> {
-        let room = self.number()?;
-        let number = u32::try_from(self.number()?).ok()?;
-        let folds = u32::try_from(self.number()?).ok()?;
-        let looks = u64::try_from(self.number()?).ok()?;
+        let (room, number) = (self.number()?, self.count()?);
+        let (folds, looks) = (self.count()?, u64::from(self.count()?));
         let (file, result) = (self.number()?, self.number()?);
+        let (all_folds, runs, last) = (self.count()?, self.count()?, self.number()?);
         let file = self.bytes(file)?;
-        let same = u32::try_from(result) == Ok(SAME);
-        let result = if same { file.clone() } else { self.bytes(result)? };
-        Some(Entry { room, answer: Answer { number, result, folds, looks }, file })
+        let result = self.bytes_or(result, &file)?;
+        let last = self.bytes_or(last, &result)?;
+        let answer = Answer { number, result, folds, looks };
+        let steady = Steady { number, result: last, folds: all_folds, runs };
+        Some(Entry { room, file, answer, steady })
     }
 }
 
@@ -149,15 +167,49 @@ impl Iterator for Reader<'_> {
     }
 }
 
-/// Folds every file anew and compares. How many entries there are.
-pub fn replay(bytes: &[u8]) -> Result<usize, String> {
-    let mut count = 0;
+/// What the entries of a list hold.
+#[derive(Default)]
+pub struct Totals {
+    pub entries: usize,
+    accepted: usize,
+    folds: u64,
+    bytes: usize,
+    all_folds: u64,
+    runs: u64,
+    last_bytes: usize,
+}
+
+impl Totals {
+    fn add(&mut self, entry: &Entry) {
+        let Entry { answer, steady, .. } = entry;
+        self.entries += 1;
+        self.accepted += usize::from(answer.number == 0);
+        self.folds += u64::from(answer.folds);
+        self.bytes += answer.result.len();
+        self.all_folds += u64::from(steady.folds);
+        self.runs += u64::from(steady.runs);
+        self.last_bytes += steady.result.len();
+    }
+
+    pub fn line(&self) -> String {
+        let Self { entries, accepted, folds, bytes, all_folds, runs, last_bytes } = self;
+        format!(
+            "entries {entries}, accepted {accepted}, folds {folds}, bytes {bytes}; until steady: \
+             folds {all_folds}, runs {runs}, bytes {last_bytes}"
+        )
+    }
+}
+
+/// Folds every file anew, once and until steady, and compares.
+pub fn replay(bytes: &[u8]) -> Result<Totals, String> {
+    let mut totals = Totals::default();
     for entry in Reader(bytes) {
         let entry = entry?;
-        if fold(&entry.file, entry.room) != entry.answer {
-            return Err(format!("the answer of entry {count} isn't the fold's"));
+        let Entry { room, file, answer, steady } = &entry;
+        if fold(file, *room) != *answer || fold_until_steady(file, *room) != *steady {
+            return Err(format!("entry {} isn't what the fold gives", totals.entries));
         }
-        count += 1;
+        totals.add(&entry);
     }
-    Ok(count)
+    Ok(totals)
 }

@@ -3,8 +3,9 @@
 use crate::build::room_for;
 use crate::convert::{read_statements, write_statements};
 use crate::fold::{Answer, fold};
-use crate::record::{NODE_BYTES, RecordFile};
+use crate::record::{NODE_BYTES, RecordFile, read_header};
 use crate::refusal::{MOST_NODES, read_checked};
+use crate::steady::{Steady, fold_until_steady};
 
 /// How many rows the table has.
 const ROWS: usize = 11;
@@ -106,9 +107,12 @@ fn check_fold(
     totals: &mut Totals,
 ) -> Result<(), String> {
     check_round_trip(records, file)?;
-    check_sizes(records, file, answer)?;
-    check_copied_parts(records, file, answer)?;
-    let runs = count_runs(records, file, room, answer)?;
+    check_counts(records, answer)?;
+    check_result(records, file, &answer.result)?;
+    let steady = fold_until_steady(file, room);
+    check_repeat(records, room, &steady)?;
+    check_result(records, file, &steady.result)?;
+    let runs = usize::try_from(steady.runs).expect("small");
     totals.folds += u64::from(answer.folds);
     totals.folding += u64::from(answer.folds > 0);
     totals.changed += u64::from(answer.folds == 0 && answer.result != file);
@@ -124,11 +128,8 @@ fn check_round_trip(records: &RecordFile, file: &[u8]) -> Result<(), String> {
     demand(again.to_bytes() == file, || "reading and writing back changes the file".into())
 }
 
-fn check_sizes(records: &RecordFile, file: &[u8], answer: &Answer) -> Result<(), String> {
+fn check_counts(records: &RecordFile, answer: &Answer) -> Result<(), String> {
     let declarators = records.declarators.len();
-    let most = room_for(file, declarators);
-    let length = answer.result.len();
-    demand(length <= most, || format!("the result has {length} bytes, more than {most}"))?;
     let statements = u64::try_from(records.statements.len() + 2 * declarators).expect("small");
     let most = statements * u64::from(MOST_NODES);
     demand(answer.looks <= most, || format!("{} looks, more than {most}", answer.looks))?;
@@ -136,36 +137,31 @@ fn check_sizes(records: &RecordFile, file: &[u8], answer: &Answer) -> Result<(),
     demand(folds <= declarators, || format!("{folds} folds of {declarators} declarators"))
 }
 
-/// Options and scopes of the header, facts, scopes and frames are those of the file.
-fn check_copied_parts(records: &RecordFile, file: &[u8], answer: &Answer) -> Result<(), String> {
+/// The result of one run or of several: it isn't too long, and options and scopes of the header,
+/// facts, scopes and frames are those of the file.
+fn check_result(records: &RecordFile, file: &[u8], result: &[u8]) -> Result<(), String> {
+    let most = room_for(file, records.declarators.len());
+    let length = result.len();
+    demand(length <= most, || format!("a result has {length} bytes, more than {most}"))?;
     let header = records.header();
     let tail = 4 * (records.declarators.len() + records.statements.len());
     let facts = 24..header.file_bytes() - tail - NODE_BYTES * records.nodes.len();
-    let same = |part: std::ops::Range<usize>| answer.result.get(part.clone()) == file.get(part);
+    let same = |part: std::ops::Range<usize>| result.get(part.clone()) == file.get(part);
     let copied = same(0..12) && same(18..24) && same(facts);
     demand(copied, || "facts, scopes, frames or options aren't copied".into())
 }
 
-/// How many runs it takes until nothing changes, the last one counted. Every result is accepted
-/// again.
-fn count_runs(
-    records: &RecordFile,
-    file: &[u8],
-    room: usize,
-    first: &Answer,
-) -> Result<usize, String> {
-    let most = records.declarators.len() + 2;
-    let mut runs = 1;
-    let mut before = file.to_vec();
-    let mut after = first.result.clone();
-    while before != after {
-        let next = fold(&after, room);
-        let number = next.number;
-        demand(number == 0, || format!("the result of run {runs} is refused with {number}"))?;
-        runs += 1;
-        demand(runs <= most, || format!("more than {most} runs"))?;
-        before = after;
-        after = next.result;
-    }
-    Ok(runs)
+/// Every run was accepted, there were at most D + 2, their folds are the declarators that are gone,
+/// and folding the last result gives it back.
+fn check_repeat(records: &RecordFile, room: usize, steady: &Steady) -> Result<(), String> {
+    let Steady { number, folds, runs, ref result } = *steady;
+    demand(number == 0, || format!("a result is refused with {number}"))?;
+    let declarators = u32::from(records.header().declarators);
+    demand(runs <= declarators + 2, || format!("{runs} runs, {declarators} declarators"))?;
+    let left = u32::from(read_header(result).declarators);
+    let sum = || format!("all runs: {folds} folds, {left} of {declarators} declarators are left");
+    demand(folds + left == declarators, sum)?;
+    let again = fold(result, room);
+    let stays = again.number == 0 && again.folds == 0 && again.result == *result;
+    demand(stays, || "the last result doesn't stay".into())
 }

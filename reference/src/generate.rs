@@ -10,4 +10,5 @@ pub mod nests;
 pub mod random_file;
 pub mod refusals;
 pub mod rules;
+pub mod runs;
 pub mod shapes;

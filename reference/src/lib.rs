@@ -21,3 +21,4 @@ pub mod random;
 pub mod record;
 pub mod refusal;
 pub mod scripts;
+pub mod steady;

@@ -1,4 +1,4 @@
-// The numbers that document 01 fixes; `specs/Limits.antt` has the same.
+// The numbers that document 01 fixes, which `specs/Limits.antt` has too, and what follows from them.
 pub const MAX_NAMES: u16 = 256;
 
 pub const MIN_SCOPES: u16 = 1;
@@ -41,3 +41,12 @@ pub const NODE_LENGTH: usize = 12;
 pub const DECLARATOR_LENGTH: usize = 4;
 
 pub const STATEMENT_LENGTH: usize = 4;
+
+// No accepted file wants more room for its result, and none is longer: every count is at its limit but the declarators', which is 0
+// (one takes the place of two nodes).
+pub const MAX_ROOM: usize = HEADER_LENGTH
+    + NAME_LENGTH * (MAX_NAMES as usize)
+    + SCOPE_LENGTH * (MAX_SCOPES as usize)
+    + FRAME_LENGTH * (MAX_FRAMES as usize)
+    + NODE_LENGTH * (MAX_NODES as usize)
+    + STATEMENT_LENGTH * (MAX_STATEMENTS as usize);

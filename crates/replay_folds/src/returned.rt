@@ -1,25 +1,48 @@
-// What a fold returns, as the numbers of a list.
+// What a fold and a repeat return, as the numbers of a list.
 use statements_fold::FoldAnswer;
 use statements_fold::fold;
+use statements_steady::SteadyAnswer;
+use statements_steady::fold_until_steady;
 
 pub struct Returned {
     pub number: usize,
     pub length: usize,
     pub folds: usize,
+    pub runs: usize,
 }
 
+fn refused(number: u8) -> Returned {
+    Returned {
+        number: number as usize,
+        length: 0,
+        folds: 0,
+        runs: 0,
+    }
+}
+
+// A fold is one run.
 pub fn returned_for(file: &[u8], output: &mut [u8]) -> Returned {
-    let outcome = fold(file, output);
-    match outcome {
-        FoldAnswer::Refused(number) => Returned {
-            number: number as usize,
-            length: 0,
-            folds: 0,
-        },
+    let answer = fold(file, output);
+    match answer {
+        FoldAnswer::Refused(number) => refused(number),
         FoldAnswer::Written(length, folds) => Returned {
             number: 0,
             length,
             folds,
+            runs: 1,
+        },
+    }
+}
+
+pub fn steady_for(file: &[u8], output: &mut [u8]) -> Returned {
+    let answer = fold_until_steady(file, output);
+    match answer {
+        SteadyAnswer::Refused(number) => refused(number),
+        SteadyAnswer::Written(length, folds, runs) => Returned {
+            number: 0,
+            length,
+            folds,
+            runs,
         },
     }
 }

@@ -5,6 +5,7 @@ use records::number::one;
 pub struct ReplayTotals {
     accepted: usize,
     folds: usize,
+    runs: usize,
     bytes: usize,
 }
 
@@ -22,6 +23,7 @@ impl ReplayTotals {
         Self {
             accepted: 0,
             folds: 0,
+            runs: 0,
             bytes: 0,
         }
     }
@@ -30,13 +32,16 @@ impl ReplayTotals {
         Self {
             accepted: sum(self.accepted, one(r.number == 0)),
             folds: sum(self.folds, r.folds),
+            runs: sum(self.runs, r.runs),
             bytes: sum(self.bytes, r.length),
         }
     }
 
-    pub fn print(self) {
-        program_lines::put(b" accepted ", self.accepted);
+    // A line that begins with these words.
+    pub fn print(self, what: &[u8]) {
+        program_lines::put(what, self.accepted);
         program_lines::put(b" folds ", self.folds);
+        program_lines::put(b" runs ", self.runs);
         program_lines::put(b" bytes ", self.bytes);
         program_lines::end(b"");
     }

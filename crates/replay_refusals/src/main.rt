@@ -8,6 +8,7 @@ mod tally;
 use records_refusal::check::refusal;
 use records_refusal::outcome::number_of;
 use replay_answers::compare::compare;
+use replay_answers::entry::HEAD_LENGTH;
 use replay_answers::entry::read_entry;
 
 // The number for the file of so many bytes at the start of a buffer.
@@ -20,15 +21,17 @@ fn number_for(buf: &[u8], end: usize, room: usize) -> u8
 // The next entry of the list; false at its end.
 fn replay(
     entry: usize,
-    head: &mut [u8; 24],
+    head: &mut [u8; 36],
     file: &mut [u8],
-    spare: &mut [u8],
+    result: &mut [u8],
+    steady: &mut [u8],
     counts: &mut [usize; 12],
 ) -> bool
     requires file { ⌜ 65536 ≤ length (now file) ⌝ }
-    requires spare { ⌜ 65536 ≤ length (now spare) ⌝ }
+    requires result { ⌜ 65536 ≤ length (now result) ⌝ }
+    requires steady { ⌜ 65536 ≤ length (now steady) ⌝ }
 {
-    let e = read_entry(head, file, spare);
+    let e = read_entry(head, file, result, steady);
     if !e.there {
         return false;
     }
@@ -39,13 +42,21 @@ fn replay(
 }
 
 fn main() {
-    let mut head = [0u8; 24];
+    let mut head = [0u8; HEAD_LENGTH];
     let mut file = io::large_buffer();
-    let mut spare = io::large_buffer();
+    let mut result = io::large_buffer();
+    let mut steady = io::large_buffer();
     let mut counts = [0usize; 12];
     let mut entry = 0;
     while entry < 1000000 {
-        if !replay(entry, &mut head, &mut file, &mut spare, &mut counts) {
+        if !replay(
+            entry,
+            &mut head,
+            &mut file,
+            &mut result,
+            &mut steady,
+            &mut counts,
+        ) {
             break;
         }
         entry += 1;

@@ -1,2 +1,3 @@
--- Laws of the public call.
+-- Laws of the core and of the public call.
+pub mod Core
 pub mod Returning

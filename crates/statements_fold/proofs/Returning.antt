@@ -1,11 +1,10 @@
 -- What the fold returns and writes, from what its parts did.
-use Prim.Native.Nat.{ℕ, zero, suc, _+_, _*_, _≤_, _<_}
+use Prim.Native.Nat.{ℕ, _+_, _*_, _≤_, _<_}
 use native.Mathlib.Omega.{arith}
-use mathlib.Core.Bool.{false, cond}
+use mathlib.Core.Bool.{false}
 use mathlib.Core.List.{List, [], _++_}
 use mathlib.Core.Path.{_≡_, refl, sym, ap, _∙_, subst}
 use lib.ListN.{length, take, drop, length-map}
-use lib.Dec.{eqb}
 use borrow.Author.Tests.{leb-true, le-leb, lt-leb, ltb-false, ne-eqb}
 use Rattle.records.specs.Limits.{maxNodes, maxDeclarators, maxStatements}
 use Rattle.records.specs.Header.{outsideLimits}
@@ -15,12 +14,11 @@ use Rattle.records.specs.Refusal.{refusal, roomWanted}
 use Rattle.records.specs.declared.layout.Header.{Header}
 use Rattle.walk_rules.specs.Context.{contextOf}
 use Rattle.statements_rules.specs.Statements.{statementOf, foldStatements}
-use Rattle.statements_rules.specs.Fold.{withStatements, foldedFile, foldFile, refused, accepted, foldBytes}
+use Rattle.statements_rules.specs.Fold.{withStatements, foldedFile, foldFile, refused, foldBytes}
 use Rattle.records_laws.proofs.Accepted.{Accepted as Passed, accepted as rows-passed, has-length}
 use Rattle.records_laws.proofs.PrintedFile.{printed-length}
 use Rattle.theory_demands.proofs.Limits.{Lower, limits-parts}
 use Rattle.theory_demands.proofs.Acceptance.{lower, result-accepted}
-use Rattle.theory_demands.proofs.Laws.{returned, length-most, result-is}
 use Rattle.records_refusal.specs.Passing.{HeaderPasses}
 use Rattle.statements_search.specs.Kept.{foldedNames}
 use Rattle.records_result.specs.declared.header.Counts.{Counts}
@@ -32,7 +30,8 @@ use Rattle.statements.specs.Folds.{FoldsFile}
 use Rattle.statements_fold.specs.declared.FoldAnswer.the-variants.{Refused, Written}
 use Rattle.statements_fold.specs.declared.tables.Outcome.{Outcome}
 use Rattle.statements_fold.specs.Answer.{numbers, numbersOf, laidOver}
-use Rattle.statements_fold.specs.Outcome.{folds, outcomeOf, laidIfRoom, ifAccepted, FoldsRecords}
+use Rattle.statements_fold.specs.Outcome.{folds, laidIfRoom, FoldsRecords}
+use Rattle.statements_fold.proofs.Core.{number-is, FoldsBytes, by-definition}
 
 -- A file that is refused: by a row of its header, and by one of rows 5 to 11.
 pub returns-refused : (bytes : List ℕ) (room number : ℕ) (output : List ℕ) → number ≡ refusal bytes room → 0 < number → (numbers (Refused number) ≡ numbersOf (foldBytes bytes room)) × (output ≡ laidOver (foldBytes bytes room) output)
@@ -143,31 +142,15 @@ module _ (bytes : List ℕ) (room : ℕ) (e : refusal bytes room ≡ 0) where
 
 -- What is returned and written, where the output is the room.
 module _ (bytes output : List ℕ) where
-  fits : refusal bytes (length output) ≡ 0 → length (print (foldFile (read bytes) .file)) ≤ length output
-  unfolding roomWanted
-  fits e =
-      let x = length-most bytes (length output) e in
-      let y = ap length (result-is bytes (length output) e) in
-      let z = ltb-false (length output) (roomWanted bytes) (rows-passed bytes (length output) e .fits) in
-      omega (arith, x, y, z)
+  long : refusal bytes (length output) ≡ 0 → roomWanted bytes ≤ length output
+  long e = ltb-false (length output) (roomWanted bytes) (rows-passed bytes (length output) e .fits)
 
-  module _ {r : Outcome} (er : r ≡ outcomeOf bytes (length output)) where
-    number-is : r .number ≡ refusal bytes (length output)
-    number-is = ap (λ (x : Outcome). x .number) er ∙ by (refusal bytes (length output))
-      where
-        by : (n : ℕ) → cond (eqb n 0) (folds (foldFile (read bytes))) (record { number = n; length = 0; folds = 0; «statements_kept» = 0; looks = 0 }) .number ≡ n
-        by zero = refl
-        by (suc n) = rw (ne-eqb (suc n) 0 (λ z. omega (arith, z))) refl
+  module _ {output′ names names′ kept : List ℕ} {r : Outcome} (w : FoldsRecords bytes (length output) output output′ names names′ kept r) where
+    core : FoldsBytes bytes (length output) output output′ r
+    core = by-definition bytes (length output) output long w
 
-    pub written-refused : {output′ : List ℕ} → output′ ≡ ifAccepted bytes (length output) (laidIfRoom (print (foldFile (read bytes) .file)) output) output → 0 < r .number
-        → (numbers (Refused (r .number)) ≡ numbersOf (foldBytes bytes (length output))) × (output′ ≡ laidOver (foldBytes bytes (length output)) output)
-    written-refused eo p =
-        let (x, y) = returns-refused bytes (length output) (r .number) output number-is p in
-        (x, eo ∙ ap (λ (n : ℕ). cond (eqb n 0) (laidIfRoom (print (foldFile (read bytes) .file)) output) output) (sym number-is) ∙ rw (ne-eqb (r .number) 0 (λ z. omega (arith, z, p))) y)
+    pub written-refused : 0 < r .number → (numbers (Refused (r .number)) ≡ numbersOf (foldBytes bytes (length output))) × (output′ ≡ laidOver (foldBytes bytes (length output)) output)
+    written-refused p = (returns-refused bytes (length output) (r .number) output (core .number ∙ number-is bytes (length output)) p .0, core .written)
 
-    pub written-folded : {output′ : List ℕ} → output′ ≡ ifAccepted bytes (length output) (laidIfRoom (print (foldFile (read bytes) .file)) output) output → r .number ≡ 0
-        → (numbers (Written (r .length) (r .folds)) ≡ numbersOf (foldBytes bytes (length output))) × (output′ ≡ laidOver (foldBytes bytes (length output)) output)
-    unfolding accepted
-    written-folded eo z =
-        let e : refusal bytes (length output) ≡ 0 = sym number-is ∙ z in
-        (rw (returned bytes (length output) e, er, e) refl, eo ∙ rw (e, le-leb (length (print (foldFile (read bytes) .file))) (length output) (fits e), returned bytes (length output) e) refl)
+    pub written-folded : r .number ≡ 0 → (numbers (Written (r .length) (r .folds)) ≡ numbersOf (foldBytes bytes (length output))) × (output′ ≡ laidOver (foldBytes bytes (length output)) output)
+    written-folded z = (rw (← core .number, z, core .measured, core .folds) refl, core .written)

@@ -20,6 +20,10 @@ numbers (Written l k) = record { number = 0; resultLength = l; folds = k }
 abbrev pub numbersOf : Returned → Numbers
 numbersOf w = record { number = w .number; resultLength = w .resultLength; folds = w .folds }
 
--- the result at the start of the output; "output beyond that length is unchanged", and all of it where the file is refused
+-- a result at the start of the output; "output beyond that length is unchanged"
+abbrev pub laidInto : List ℕ → List ℕ → List ℕ
+laidInto result output = result ++ drop (length result) output
+
+-- the result of a fold, and all of the output as it was where the file is refused
 abbrev pub laidOver : Returned → List ℕ → List ℕ
-laidOver w output = w .result ++ drop (length (w .result)) output
+laidOver w output = laidInto (w .result) output

@@ -9,6 +9,7 @@ use Rattle.records.specs.File.{read, print}
 use Rattle.records.specs.Refusal.{refusal}
 use Rattle.statements_rules.specs.Fold.{Folded, foldFile}
 use Rattle.statements_search.specs.Kept.{foldedNames}
+use Rattle.statements_fold.specs.Answer.{laidInto}
 use Rattle.statements_fold.specs.declared.tables.Outcome.{Outcome}
 
 -- the numbers of a folded file
@@ -32,7 +33,7 @@ outcomeOf bs room =
 
 -- a result at the start of the output, if there is room for it, and else the output as it is
 abbrev pub laidIfRoom : List ℕ → List ℕ → List ℕ
-laidIfRoom result output = cond (leb (length result) (length output)) (result ++ drop (length result) output) output
+laidIfRoom result output = cond (leb (length result) (length output)) (laidInto result output) output
 
 -- The records of a file were checked, with so much room for the result, and an accepted file was folded: what is returned; the
 -- result in the output, if that is long enough; a list that begins with the folded names, in the order of the folds, and is as it

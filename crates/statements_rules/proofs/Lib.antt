@@ -3,5 +3,6 @@
 pub mod Computed
 pub mod Scripts
 pub mod Answers
+pub mod Repeats
 pub mod Totals
 pub mod Lengths

@@ -3,3 +3,4 @@ pub mod Trace
 pub mod Declarators
 pub mod Statements
 pub mod Fold
+pub mod Steady

@@ -38,7 +38,7 @@ use Rattle.theory_preservation.proofs.Positions.{somewhere}
 use Rattle.theory_preservation.proofs.Fit.{misfit, fit-whole}
 
 -- a record of a list of good ones
-every-at : {A : Type 0} (good : ℕ → A → Bool) (i : ℕ) (xs : List A) (k : ℕ) (d : A) → everyFrom good i xs ≡ true → k < length xs → (j : ℕ) → j ≡ i + k → good j (getD xs k d) ≡ true
+pub every-at : {A : Type 0} (good : ℕ → A → Bool) (i : ℕ) (xs : List A) (k : ℕ) (d : A) → everyFrom good i xs ≡ true → k < length xs → (j : ℕ) → j ≡ i + k → good j (getD xs k d) ≡ true
 unfolding everyFrom
 every-at good i [] k d e h j q = absurd (omega arith)
 every-at good i (x ∷ xs) zero d e h j q = let z : j ≡ i = omega arith in subst (λ n. good n x ≡ true) (sym z) (both (good i x) (everyFrom good (i + 1) xs) e .0)
@@ -202,7 +202,7 @@ module _ (bs : List ℕ) (room : ℕ) (a : Passed bs room) where
   unfolding read
   names-are = refl
 
-  good-names : every (goodName (length (scopesOf bs))) (namesOf bs) ≡ true
+  pub good-names : every (goodName (length (scopesOf bs))) (namesOf bs) ≡ true
   unfolding badFacts
   good-names =
       let g = not-false (every (goodName (length (scopesOf bs))) (namesOf bs) && everyFrom goodScope 0 (scopesOf bs) && every (goodFrame (length (scopesOf bs))) (framesOf bs)) (a .facts) in
@@ -233,7 +233,7 @@ module _ (bs : List ℕ) (room : ℕ) (a : Passed bs room) where
       (every-at (λ name n. goodCounts n (readsOf name (forestOf (nodesOf bs))) (targetsOf name (forestOf (nodesOf bs)))) 0 (namesOf bs) x noName (not-false (everyFrom (λ name n. goodCounts n (readsOf name (forestOf (nodesOf bs))) (targetsOf name (forestOf (nodesOf bs)))) 0 (namesOf bs)) (a .counts)) h x (omega arith))
 
   -- a recorded name is one of the file's
-  recorded-in : (x : ℕ) → recorded (factsOf f x .flags) ≡ true → x < length (namesOf bs)
+  pub recorded-in : (x : ℕ) → recorded (factsOf f x .flags) ≡ true → x < length (namesOf bs)
   recorded-in x e = by (ltb x (length (namesOf bs))) refl
     where
       out : length (namesOf bs) ≤ x → recorded (factsOf f x .flags) ≡ false

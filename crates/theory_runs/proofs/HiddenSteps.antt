@@ -21,7 +21,7 @@ use Rattle.theory_runs.specs.Step.{value, Origin, ofNode, ofOther, Step}
 use Rattle.theory_runs.specs.Meaning.{Act, done, stops, Meaning}
 use Rattle.theory_runs.specs.Makes.{Asked, choice, step, makes, makesAct}
 use Rattle.theory_runs.specs.Facts.{readsStand, throughBy, through, AgreeBut, ActsAlike, both-done, both-stop, Facts}
-use Rattle.theory_runs.proofs.Witness.{name, call, facts, fileOf, statements, trace, Bench, isDirect, isFree, bench, start, made, Unread, true-of}
+use Rattle.theory_runs.proofs.Witness.{name, call, facts, fileOf, statements, trace, Bench, isDirect, isFree, bench, start, made, Unread, true-of, kept-here}
 
 -- Every name is set to 0; v is read or not.
 unfoldable pub resets : Bool → Meaning ℕ Bench
@@ -123,7 +123,7 @@ unread (step false) x = λ a s s′ g. refl
 unread (step true) x = λ a s s′ g. both-done (record { names = λ n e. refl; rest = g .rest })
 
 pub binding-met : Facts (fileOf facts binding) trace (bench (resets false)) start
-binding-met = true-of (resets false) binding binding-no-eval (λ d x k e. unread d x)
+binding-met = true-of (resets false) facts binding binding-no-eval (λ d x k e. unread d x) trace (kept-here (resets false), tt)
 
 -- these are the folds made in it
 binding-folds : foldFile (fileOf facts binding) .trace ≡ trace

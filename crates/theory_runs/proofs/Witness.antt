@@ -29,14 +29,14 @@ use Rattle.theory_runs.specs.Makes.{Asked, choice, step, isMarkedStep, i
 use Rattle.walk_rules.specs.Context.{contextOf, factsOf}
 use Rattle.walk_rules.specs.Unsettled.{scopeOf, climb, readCrossesFunctionBoundary}
 use Rattle.theory_runs.specs.Demand.{folded, both-ended, SameRun}
-use Rattle.theory_runs.specs.Facts.{isTargetOf, aims, throughBy, through, isOfNode, AgreeBut, ActsAlike, both-done, both-stop, FoldKeeps, thisStep, Facts}
+use Rattle.theory_runs.specs.Facts.{isTargetOf, aims, throughBy, through, isOfNode, AgreeBut, ActsAlike, both-done, both-stop, Each, FoldKeeps, thisStep, Facts}
 use Rattle.statements_rules.specs.Declarators.{isUsing}
 use Rattle.statements_rules.specs.Trace.{Fold}
 use Rattle.statements_rules.specs.Fold.{foldFile}
 use Rattle.statements_rules.proofs.Computed.{computed}
 
 -- The file: `const v = f(); o.x = v; g();`. Names: 0 v, 1 f, 2 g, 3 o.
-abbrev nd : ℕ → ℕ → ℕ → Trees → Tree
+abbrev pub nd : ℕ → ℕ → ℕ → Trees → Tree
 nd kind flags label kids = node (record { kind = kind; flags = flags; label = label; position = 0 }) kids
 
 abbrev pub name : ℕ → Tree
@@ -45,10 +45,10 @@ name a = nd 4 0 a none
 abbrev pub call : ℕ → Tree
 call a = nd 14 1 0 (more (name a) none)
 
-abbrev property : Tree
+abbrev pub property : Tree
 property = nd 10 0 7 (more (name 3) none)
 
-abbrev assigned : Tree → Tree
+abbrev pub assigned : Tree → Tree
 assigned t = nd 20 0 0 (more property (more t none))
 
 abbrev pub facts : List NameFacts
@@ -138,13 +138,13 @@ abbrev pub start : Store ℕ Bench
 start = record { names = λ a. 10 + a; rest = (40, 0) }
 
 -- the state that a part of a run leaves, and the value that it gave
-unfoldable stateOf : {A : Type 0} → Out ℕ Bench A → State ℕ Bench
+unfoldable pub stateOf : {A : Type 0} → Out ℕ Bench A → State ℕ Bench
 unfolding begin
 stateOf (gave a s) = s
 stateOf (cut s) = s
 stateOf (stop l) = begin start
 
-unfoldable valueOf : Out ℕ Bench (Given ℕ) → ℕ
+unfoldable pub valueOf : Out ℕ Bench (Given ℕ) → ℕ
 valueOf (gave x s) = x .value
 valueOf (cut s) = 0
 valueOf (stop l) = 0
@@ -154,11 +154,11 @@ storeOf (done w s) u = s
 storeOf stops u = u
 
 -- what a run comes to, computed
-unfoldable runs : Meaning ℕ Bench → Tree → Role → State ℕ Bench → Out ℕ Bench (Given ℕ)
+unfoldable pub runs : Meaning ℕ Bench → Tree → Role → State ℕ Bench → Out ℕ Bench (Given ℕ)
 unfolding cleared isMarked isMember isDelete form order childless isName isChain isPlain isAssignment choiceOf firstRole originOf bind takes then isRead kept listed acted caught gathered chosen inTurn stepped queued held afterFirst own beside finished runNode run firstOr lastOr set flagsOf callee looks changes halts isTargetOf aims throughBy writes isDirect isFree acts bench
 runs free t role s = run facts (bench free) t role s
 
-unfoldable ran-of : Meaning ℕ Bench → File → Ran ℕ Bench
+unfoldable pub ran-of : Meaning ℕ Bench → File → Ran ℕ Bench
 unfolding runs sets binds declaresBare declaresWith runDeclarator runDeclarators gives runStatement runStatements whole ran begin runFile
 ran-of free f = runFile (bench free) f start
 
@@ -177,7 +177,7 @@ unfolding cleared isMarked isMember isDelete form order childless isName isChain
 made d f x = makes d f x
 
 -- Before and after the folded call `o.x` holds 40.
-kept-here : (free : Meaning ℕ Bench) → FoldKeeps facts (bench free) start (record { name = 0; initializer = call 1; into = assigned (name 0); before = declaration Const [] ∷ [] })
+pub kept-here : (free : Meaning ℕ Bench) → FoldKeeps facts (bench free) start (record { name = 0; initializer = call 1; into = assigned (name 0); before = declaration Const [] ∷ [] })
 unfolding runs stateOf valueOf runDeclarators runStatement runStatements begin
 kept-here free s s′ x before through-it =
     let here : begin start ≡ s = ap stateOf before in
@@ -207,11 +207,11 @@ Unread free (step false) x = (a : ℕ) (s s′ : Store ℕ Bench) → AgreeBut a
 Unread free (step true) x = (a : ℕ) (s s′ : Store ℕ Bench) → AgreeBut a s s′ → ActsAlike a (free .acts x s) (free .acts x s′)
 
 -- The facts are true for statements that make no direct eval, and no declarator's or kind 6 statement's step that reads a name.
-module _ (free : Meaning ℕ Bench) (ss : List Statement)
-    (no-eval : (d : Asked) (o : Origin) (w : ℕ) (hs : List (Given ℕ)) → makes d (fileOf facts ss) (record { origin = o; hand = record { value = w; beside = bareEval } ∷ hs }) ≡ false)
-    (unread : (d : Asked) (x : Step ℕ) → makes d (fileOf facts ss) x ≡ true → isOfNode (x .origin) ≡ false → Unread free d x) where
+module _ (free : Meaning ℕ Bench) (names : List NameFacts) (ss : List Statement)
+    (no-eval : (d : Asked) (o : Origin) (w : ℕ) (hs : List (Given ℕ)) → makes d (fileOf names ss) (record { origin = o; hand = record { value = w; beside = bareEval } ∷ hs }) ≡ false)
+    (unread : (d : Asked) (x : Step ℕ) → makes d (fileOf names ss) x ≡ true → isOfNode (x .origin) ≡ false → Unread free d x) where
   abbrev f : File
-  f = fileOf facts ss
+  f = fileOf names ss
 
   no-direct : (d : Asked) (o : Origin) (w : ℕ) (b : Beside ℕ) (hs : List (Given ℕ)) → makes d f (record { origin = o; hand = record { value = w; beside = b } ∷ hs }) ≡ true → isDirect b ≡ false
   unfolding isDirect
@@ -268,15 +268,15 @@ module _ (free : Meaning ℕ Bench) (ss : List Statement)
   unfolding bench looks isFree isDirect firstOr
   this-fixed label flags s s′ = refl
 
-  pub true-of : Facts f trace (bench free) start
-  true-of = record {
+  pub true-of : (folds : List Fold) → Each (FoldKeeps names (bench free) start) folds → Facts f folds (bench free) start
+  true-of folds kept = record {
     reads-hidden = λ a h x k e s s′ g. reads-alike a x k s s′ g;
     chooses-hidden = λ a h x k e s s′ g. chooses-alike a x k s s′ g;
     acts-hidden = λ a h x k e s s′ g. acts-alike a x k s s′ g;
     writes-hidden = λ a h x k n e s s′ w g. unwritten a x k n e s s′ w g;
     settled-kept = λ a h x k n e s s′ w g. unwritten a x k n e s s′ w g;
     this-kept = λ h x k n s s′ w g label flags i. this-fixed label flags s s′;
-    targets-kept = (kept-here free, tt);
+    targets-kept = kept;
   }
 
 -- The file makes no direct eval, and no step of a pattern, a using or a kind 6 statement; so its facts are true whatever these
@@ -295,7 +295,7 @@ nodes-alone choice ofOther hs e = simp and-false
 nodes-alone (step b) ofOther hs e = simp and-false
 
 pub met : (free : Meaning ℕ Bench) → Facts script trace (bench free) start
-met free = true-of free statements script-no-eval (λ d x k e. absurd (false≢true (sym (nodes-alone d (x .origin) (x .hand) e) ∙ k)))
+met free = true-of free facts statements script-no-eval (λ d x k e. absurd (false≢true (sym (nodes-alone d (x .origin) (x .hand) e) ∙ k))) trace (kept-here free, tt)
 
 -- The file is accepted, this is its fold, and it has none of the four shapes.
 pub accepted : refusal (print script) 1000 ≡ 0

@@ -119,7 +119,7 @@ abbrev pub thisStep : {Value : Type 0} → ℕ → ℕ → Step Value
 thisStep label flags = record { origin = ofNode 5 label flags value; hand = [] }
 
 -- The facts of a file are true of a meaning. They are asked of the steps and choices that the file can make, and of no others;
--- the last one of the folds made in it, on the run from a starting store.
+-- the last one of the folds made in it, or in what earlier folds left of it, on the run from a starting store.
 pub record Facts {Value Rest : Type 0} (f : File) (trace : List Fold) (m : Meaning Value Rest) (start : Store Value Rest) : Type 0 where
   -- "no hidden part reads a recorded name whose stated reads all stand in the file": on stores that differ at this name
   -- alone, every step and choice of the file does the same, but those through it

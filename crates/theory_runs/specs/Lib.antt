@@ -15,3 +15,4 @@ pub mod InHand
 pub mod Makes
 pub mod Facts
 pub mod Demand
+pub mod Steady

@@ -1,6 +1,11 @@
--- The numbers of the exported answer.
+-- The numbers of the exported answers.
 use Rattle.statements_fold.specs.Answer.{Numbers}
+use Rattle.statements_steady.specs.Answer.{Numbers as SteadyNumbers}
 use Rattle.wsf.specs.declared.WsfAnswer.{WsfAnswer}
+use Rattle.wsf.specs.declared.steady.WsfSteady.{WsfSteady}
 
 abbrev pub answerNumbers : WsfAnswer → Numbers
 answerNumbers a = record { number = a .number; resultLength = a .length; folds = a .folds }
+
+abbrev pub steadyNumbers : WsfSteady → SteadyNumbers
+steadyNumbers a = record { number = a .number; resultLength = a .length; folds = a .folds; runs = a .runs }

@@ -1,2 +1,2 @@
--- What the exported call returns.
+-- What the exported calls return.
 pub mod Answer

@@ -1,4 +1,6 @@
-// The fold of a record file, for C and Rust to call.
+// The fold of a record file, for C and Rust to call; each other call is in a module of its own.
+pub mod steady;
+
 ghost use mathlib.Core.Path.{_≡_};
 ghost use lib.ListN.{length};
 ghost use Rattle.records.specs.Refusal.{refusal as refusalOf};

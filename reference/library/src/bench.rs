@@ -5,9 +5,10 @@ use std::time::{Duration, Instant};
 
 use reference::fold::fold;
 use reference::generate::case::Case;
+use reference::steady::{fold_until_steady, runs};
 
-use crate::call::{MOST_ROOM, call};
-use crate::inputs::{Class, groups};
+use crate::call::{self, MOST_ROOM};
+use crate::inputs::{Class, groups, repeated};
 
 /// A sample takes at least so long, and the least time of so many samples counts.
 const SAMPLE: Duration = Duration::from_millis(20);
@@ -18,46 +19,97 @@ pub fn bench_all() {
     println!("{:<44} {:>6} {:>11} {:>11} {:>8}", "", "files", "reference", "library", "ratio");
     for (what, classes) in groups() {
         println!("{what}");
-        let logarithms: f64 = classes.iter().map(|class| bench_class(class).ln()).sum();
-        let mean = (logarithms / classes.len() as f64).exp();
-        println!("  {:<42} {:>39.3}", "geometric mean of the ratios", mean);
+        let ratios: Vec<f64> = classes.iter().map(bench_class).collect();
+        println!("  {:<42} {:>39.3}", "geometric mean of the ratios", mean(&ratios));
     }
+    bench_repeats();
+}
+
+fn bench_repeats() {
+    println!(
+        "until steady, beside the reference's repeat and beside a call of wsf_fold for each run"
+    );
+    println!("{:<85} {:>4} {:>11} {:>8}", "", "runs", "single runs", "ratio");
+    let ratios: Vec<[f64; 2]> = repeated().iter().map(bench_repeat).collect();
+    let [beside_reference, beside_runs] = [0, 1].map(|at| {
+        let ratios: Vec<f64> = ratios.iter().map(|ratios| ratios[at]).collect();
+        mean(&ratios)
+    });
+    let what = "geometric mean of the ratios";
+    println!("  {what:<42} {beside_reference:>39.3} {beside_runs:>25.3}");
+}
+
+fn mean(ratios: &[f64]) -> f64 {
+    let logarithms: f64 = ratios.iter().map(|ratio| ratio.ln()).sum();
+    (logarithms / ratios.len() as f64).exp()
 }
 
 /// Prints the times of a class. The ratio.
 fn bench_class(class: &Class) -> f64 {
     let cases = &class.cases;
     let mut output = vec![0; MOST_ROOM];
-    let mut by_library = || by_library(cases, &mut output);
-    let mut by_reference = || by_reference(cases);
-    let (often_library, often_reference) = (times(&mut by_library), times(&mut by_reference));
-    let (mut library, mut reference) = (f64::MAX, f64::MAX);
-    for _ in 0..SAMPLES {
-        reference = reference.min(sample(&mut by_reference, often_reference));
-        library = library.min(sample(&mut by_library, often_library));
-    }
-    let a_file = |time: f64| time * 1e6 / cases.len() as f64;
-    println!(
-        "  {:<42} {:>6} {:>11.2} {:>11.2} {:>8.3}",
-        class.what,
-        cases.len(),
-        a_file(reference),
-        a_file(library),
-        library / reference
-    );
+    let [reference, library] =
+        least([&mut || each(cases, |case| fold(&case.file, case.room)), &mut || {
+            each(cases, |case| call::fold(&case.file, &mut output[..case.room]))
+        }]);
+    println!("{}", times_of(class, reference, library));
     library / reference
 }
 
-fn by_reference(cases: &[Case]) {
+/// Prints the times of a class. The ratio to the reference's repeat, and to the single runs.
+fn bench_repeat(class: &Class) -> [f64; 2] {
+    let cases = &class.cases;
+    let given: Vec<Case> = cases.iter().flat_map(given_to_runs).collect();
+    let (mut output, mut of_run) = (vec![0; MOST_ROOM], vec![0; MOST_ROOM]);
+    let [reference, library, single] = least([
+        &mut || each(cases, |case| fold_until_steady(&case.file, case.room)),
+        &mut || each(cases, |case| call::fold_until_steady(&case.file, &mut output[..case.room])),
+        &mut || each(&given, |case| call::fold(&case.file, &mut of_run[..case.room])),
+    ]);
+    let files = cases.len() as f64;
+    let (runs, a_file, ratio) =
+        (given.len() as f64 / files, single * 1e6 / files, library / single);
+    let times = times_of(class, reference, library);
+    println!("{times} {runs:>4.1} {a_file:>11.2} {ratio:>8.3}");
+    [library / reference, ratio]
+}
+
+/// The files that the runs of the repeat are given, in the case's room.
+fn given_to_runs(case: &Case) -> Vec<Case> {
+    let results = runs(&case.file, case.room).map(|answer| answer.result);
+    let mut given: Vec<Vec<u8>> = std::iter::once(case.file.clone()).chain(results).collect();
+    given.pop().expect("the last run gives what it was given");
+    given.into_iter().map(|file| Case::new("a run", file).in_room(case.room)).collect()
+}
+
+fn times_of(class: &Class, reference: f64, library: f64) -> String {
+    let files = class.cases.len();
+    let a_file = |time: f64| time * 1e6 / files as f64;
+    format!(
+        "  {:<42} {files:>6} {:>11.2} {:>11.2} {:>8.3}",
+        class.what,
+        a_file(reference),
+        a_file(library),
+        library / reference
+    )
+}
+
+fn each<T>(cases: &[Case], mut of: impl FnMut(&Case) -> T) {
     for case in cases {
-        black_box(fold(black_box(&case.file), case.room));
+        black_box(of(black_box(case)));
     }
 }
 
-fn by_library(cases: &[Case], output: &mut [u8]) {
-    for case in cases {
-        black_box(call(black_box(&case.file), &mut output[..case.room]));
+/// The seconds that each of them takes, sampled in turn.
+fn least<const N: usize>(mut all: [&mut dyn FnMut(); N]) -> [f64; N] {
+    let often = all.each_mut().map(|run| times(*run));
+    let mut least = [f64::MAX; N];
+    for _ in 0..SAMPLES {
+        for (at, run) in all.iter_mut().enumerate() {
+            least[at] = least[at].min(sample(*run, often[at]));
+        }
     }
+    least
 }
 
 /// How often it has to run for a sample.

@@ -1,7 +1,8 @@
-//! The library called on a file, with an output that tells what was written.
+//! The functions of the library called on a file, with an output that tells what was written.
 
 use reference::fold::Answer;
-use wsf::raw::{WsfAnswer, wsf_fold};
+use reference::steady::Steady;
+use wsf::raw::{wsf_fold, wsf_fold_until_steady};
 
 /// Bytes on either side of the output, which nobody may write.
 const GUARD: usize = 64;
@@ -11,6 +12,69 @@ pub const MOST_ROOM: usize = 65536;
 const ALIGNMENT: usize = 8;
 /// The output starts at so many places of the pattern.
 const PLACES: usize = 4096;
+
+/// The numbers that a call returns. Those of `wsf_fold` have no runs.
+#[derive(Clone, Copy, PartialEq, Eq, Debug, Default)]
+pub struct Returned {
+    pub number: u64,
+    pub length: u64,
+    pub folds: u64,
+    pub runs: u64,
+}
+
+/// A function of the library.
+#[derive(Clone, Copy)]
+pub struct Function {
+    pub name: &'static str,
+    pub call: fn(&[u8], &mut [u8]) -> Returned,
+}
+
+pub const FUNCTIONS: [Function; 2] = [
+    Function { name: "wsf_fold", call: fold },
+    Function { name: "wsf_fold_until_steady", call: fold_until_steady },
+];
+
+pub fn fold(file: &[u8], output: &mut [u8]) -> Returned {
+    // SAFETY: two slices that are borrowed apart.
+    let it = unsafe { wsf_fold(file.as_ptr(), file.len(), output.as_mut_ptr(), output.len()) };
+    Returned { number: it.number, length: it.length, folds: it.folds, runs: 0 }
+}
+
+pub fn fold_until_steady(file: &[u8], output: &mut [u8]) -> Returned {
+    let (room, at) = (output.len(), output.as_mut_ptr());
+    // SAFETY: two slices that are borrowed apart.
+    let it = unsafe { wsf_fold_until_steady(file.as_ptr(), file.len(), at, room) };
+    Returned { number: it.number, length: it.length, folds: it.folds, runs: it.runs }
+}
+
+/// What the judge says of a call: the numbers, and the bytes at the start of the output.
+#[derive(Clone, Copy)]
+pub struct Judged<'r> {
+    pub returned: Returned,
+    pub result: &'r [u8],
+}
+
+impl Judged<'_> {
+    pub fn refusal(number: u32) -> Self {
+        Self { returned: Returned { number: number.into(), ..Returned::default() }, result: &[] }
+    }
+}
+
+impl<'r> From<&'r Answer> for Judged<'r> {
+    fn from(it: &'r Answer) -> Self {
+        let length = it.result.len() as u64;
+        let (number, folds) = (it.number.into(), it.folds.into());
+        Self { returned: Returned { number, length, folds, runs: 0 }, result: &it.result }
+    }
+}
+
+impl<'r> From<&'r Steady> for Judged<'r> {
+    fn from(it: &'r Steady) -> Self {
+        let length = it.result.len() as u64;
+        let (number, folds, runs) = (it.number.into(), it.folds.into(), it.runs.into());
+        Self { returned: Returned { number, length, folds, runs }, result: &it.result }
+    }
+}
 
 /// Buffers for calls of the library.
 pub struct Caller {
@@ -31,22 +95,28 @@ impl Caller {
         Self { pattern, buffer: Vec::new(), file: Vec::new(), calls: 0, stack }
     }
 
-    /// Calls the library and says what isn't as the judge has it.
-    pub fn compare(&mut self, file: &[u8], room: usize, judged: &Answer) -> Result<(), String> {
+    /// Calls the function and says what isn't as the judge has it.
+    pub fn compare(
+        &mut self,
+        function: Function,
+        file: &[u8],
+        room: usize,
+        judged: Judged,
+    ) -> Result<(), String> {
         self.calls += 1;
         let before = &self.pattern[self.calls % PLACES..][..room + 2 * GUARD];
         let shift = self.calls % ALIGNMENT;
         fill(&mut self.file, shift, file);
         fill(&mut self.buffer, shift, before);
         let output = &mut self.buffer[shift + GUARD..shift + GUARD + room];
-        let answer = match self.stack {
-            Some(bytes) => on_stack(bytes, || call(&self.file[shift..], output)),
-            None => call(&self.file[shift..], output),
+        let returned = match self.stack {
+            Some(bytes) => on_stack(bytes, || (function.call)(&self.file[shift..], output)),
+            None => (function.call)(&self.file[shift..], output),
         };
-        same_numbers(answer, judged)?;
+        same_numbers(returned, judged.returned)?;
         let after = &self.buffer[shift..];
         let end = GUARD + judged.result.len();
-        same_bytes(&after[GUARD..end], &judged.result, "the result")?;
+        same_bytes(&after[GUARD..end], judged.result, "the result")?;
         same_bytes(&after[end..], &before[end..], "behind the result")?;
         same_bytes(&after[..GUARD], &before[..GUARD], "before the output")?;
         same_bytes(&self.file[shift..], file, "the file")
@@ -60,11 +130,6 @@ fn fill(buffer: &mut Vec<u8>, shift: usize, bytes: &[u8]) {
     buffer.extend_from_slice(bytes);
 }
 
-pub fn call(file: &[u8], output: &mut [u8]) -> WsfAnswer {
-    // SAFETY: two slices that are borrowed apart.
-    unsafe { wsf_fold(file.as_ptr(), file.len(), output.as_mut_ptr(), output.len()) }
-}
-
 /// Runs it on a thread with a stack of so many bytes.
 pub fn on_stack<T: Send>(bytes: usize, run: impl FnOnce() -> T + Send) -> T {
     std::thread::scope(|scope| {
@@ -73,13 +138,8 @@ pub fn on_stack<T: Send>(bytes: usize, run: impl FnOnce() -> T + Send) -> T {
     })
 }
 
-fn same_numbers(answer: WsfAnswer, judged: &Answer) -> Result<(), String> {
-    let wanted = WsfAnswer {
-        number: judged.number.into(),
-        length: judged.result.len() as u64,
-        folds: judged.folds.into(),
-    };
-    if answer == wanted { Ok(()) } else { Err(format!("{answer:?}, not {wanted:?}")) }
+fn same_numbers(found: Returned, wanted: Returned) -> Result<(), String> {
+    if found == wanted { Ok(()) } else { Err(format!("{found:?}, not {wanted:?}")) }
 }
 
 fn same_bytes(found: &[u8], wanted: &[u8], what: &str) -> Result<(), String> {

@@ -13,6 +13,7 @@ use reference::generate::nests::nests;
 use reference::generate::random_file::random_file;
 use reference::generate::refusals::refusals;
 use reference::generate::rules::rules;
+use reference::generate::runs::run_cases;
 use reference::generate::shapes::shapes;
 use reference::scripts::scripts;
 
@@ -20,10 +21,10 @@ use crate::amount::{Amount, Table};
 use crate::compare::Compared;
 
 /// What `Compared::case` asks.
-const EACH_FILE: &str = "number, length, folds and every byte of the output, written or not, and \
-                         64 bytes on either side of it, in the room that row 11 wants or the case \
-                         has, a byte less and more; of one file in 16 no room and 65536 bytes too; \
-                         then each result folded again until one stays";
+const EACH_FILE: &str = "number, length, folds, runs and every byte of the output, written or not, \
+                         and 64 bytes on either side of it, in the room that row 11 wants or the \
+                         case has, a byte less and more; of one file in 16 no room and 65536 bytes \
+                         too; then each result again until one stays";
 
 /// Trees of a long file have up to so many nodes.
 const LONG: usize = 2500;
@@ -83,6 +84,7 @@ fn hand_made(compared: &mut Compared) {
     refusals().iter().chain(&limits()).for_each(|case| compared.case(case));
     rules().iter().for_each(|rule| compared.case(&rule.case()));
     shapes().iter().for_each(|shape| compared.case(&shape.case()));
+    run_cases().for_each(|case| compared.case(&case));
 }
 
 fn deep_nests(compared: &mut Compared) {

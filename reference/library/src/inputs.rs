@@ -7,6 +7,7 @@ use reference::generate::limits::limits;
 use reference::generate::nests::nests;
 use reference::generate::random_file::random_file;
 use reference::generate::refusals::refusals;
+use reference::generate::runs::repeats;
 use reference::record::{NODE_BYTES, kind, read_header, statement};
 use reference::scripts::scripts;
 
@@ -86,6 +87,18 @@ fn refused() -> Vec<Class> {
     let mut classes: Vec<Class> = (1..=11).map(row).collect();
     classes.retain(|class| !class.cases.is_empty());
     classes.push(class("refused with 11, the longest file", vec![longest.in_room(room)]));
+    classes
+}
+
+/// Files for the repeat: scripts as a bench has them, the largest ones, and those that take three
+/// runs.
+pub fn repeated() -> Vec<Class> {
+    let three = repeats().into_iter().filter(|it| it.runs == 3);
+    let three = three.map(|it| Case::of_records(it.text, &it.file));
+    let (small, large): (Vec<Case>, _) = three.partition(|case| case.file.len() < 100 * NODE_BYTES);
+    let mut classes: Vec<Class> = typical().into_iter().chain(largest()).collect();
+    classes.push(class("three runs, small files", small));
+    classes.extend(large.into_iter().map(|case| class(case.what.clone(), vec![case])));
     classes
 }
 

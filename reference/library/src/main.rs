@@ -3,6 +3,7 @@
 mod amount;
 mod bench;
 mod call;
+mod calls;
 mod compare;
 mod families;
 mod inputs;

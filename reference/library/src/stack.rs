@@ -1,8 +1,10 @@
 //! How much stack a call of the library takes: the stack below the caller is painted, and after the
 //! call the lowest byte that has changed is looked for.
 
-use crate::call::{MOST_ROOM, call, on_stack};
-use crate::inputs::{Class, groups};
+use reference::generate::case::Case;
+
+use crate::call::{FUNCTIONS, Function, MOST_ROOM, on_stack};
+use crate::inputs::{Class, groups, repeated};
 
 /// The thread's stack; of it so much is painted below the caller.
 const STACK_BYTES: usize = 32 << 20;
@@ -12,24 +14,26 @@ const NEAR: usize = 1024;
 const PAINT: u8 = 0xa5;
 
 pub fn measure() {
-    println!("bytes of stack below the caller of wsf_fold, the most of a group");
-    for (what, classes) in groups() {
-        let most = classes.iter().map(|class| (most_of(class), &class.what)).max();
-        let (bytes, which) = most.expect("no group is empty");
-        println!("{what}: {bytes} ({which})");
+    for function in FUNCTIONS {
+        println!("bytes of stack below the caller of {}, the most of a group", function.name);
+        for (what, classes) in groups().into_iter().chain([("until steady", repeated())]) {
+            let most = classes.iter().map(|class| (most_of(function, class), &class.what)).max();
+            let (bytes, which) = most.expect("no group is empty");
+            println!("{what}: {bytes} ({which})");
+        }
     }
 }
 
-fn most_of(class: &Class) -> usize {
-    let used = |file: &[u8], room: usize| on_stack(STACK_BYTES, || used_by(file, room));
-    class.cases.iter().map(|case| used(&case.file, case.room)).max().unwrap_or(0)
+fn most_of(function: Function, class: &Class) -> usize {
+    let used = |case: &Case| on_stack(STACK_BYTES, || used_by(function, &case.file, case.room));
+    class.cases.iter().map(used).max().unwrap_or(0)
 }
 
-fn used_by(file: &[u8], room: usize) -> usize {
+fn used_by(function: Function, file: &[u8], room: usize) -> usize {
     let mut output = vec![0; MOST_ROOM];
     let here = &raw const output as usize;
     paint(here);
-    call(file, &mut output[..room]);
+    (function.call)(file, &mut output[..room]);
     here - lowest_change(here)
 }
 

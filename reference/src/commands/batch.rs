@@ -3,7 +3,6 @@
 use std::io::Write;
 
 use crate::answers::write_entry;
-use crate::fold::fold;
 use crate::generate::bytes::{changed_bytes, lengths};
 use crate::generate::case::Case;
 use crate::generate::damage::damaged_case;
@@ -14,18 +13,19 @@ use crate::generate::nests::nests;
 use crate::generate::random_file::random_file;
 use crate::generate::refusals::refusals;
 use crate::generate::rules::rules;
+use crate::generate::runs::run_cases;
 use crate::generate::shapes::shapes;
 
 /// The names of the families, with their numbers.
 pub const FAMILIES: &str = "random SEED FIRST COUNT SIZE | damaged SEED FIRST COUNT SIZE | \
-                            small NODES | passed NODES | facts | rules | shapes | nests | \
-                            limits | refusals | lengths | bytes";
+                            small NODES | passed NODES | facts | rules | shapes | runs | \
+                            nests | limits | refusals | lengths | bytes";
 
 /// Writes the entries of a family to the output.
 pub fn batch(family: &str, numbers: &[u64], out: &mut dyn Write) -> Result<(), String> {
     each_case(family, numbers, &mut |case| {
         let mut entry = Vec::new();
-        write_entry(&case, &fold(&case.file, case.room), &mut entry);
+        write_entry(&case, &mut entry);
         out.write_all(&entry).expect("the output takes the entry");
     })
 }
@@ -52,6 +52,7 @@ fn each_case(family: &str, numbers: &[u64], put: &mut dyn FnMut(Case)) -> Result
         ("facts", []) => facts(put),
         ("rules", []) => rules().iter().for_each(|rule| put(rule.case())),
         ("shapes", []) => shapes().iter().for_each(|shape| put(shape.case())),
+        ("runs", []) => run_cases().for_each(put),
         ("limits", []) => limits().into_iter().for_each(put),
         ("refusals", []) => refusals().into_iter().for_each(put),
         ("lengths", []) => lengths(put),

@@ -5,7 +5,7 @@ use std::fs;
 use std::path::Path;
 use std::time::Instant;
 
-use super::write::script_paths;
+use super::write::{STEADY, paths_of, script_paths};
 use crate::answer_list::lists;
 use crate::answers::{entries, replay};
 use crate::checks::{Finding, Totals, check_file};
@@ -20,9 +20,11 @@ use crate::generate::nests::nests;
 use crate::generate::random_file::random_file;
 use crate::generate::refusals::refusals;
 use crate::generate::rules::rules;
+use crate::generate::runs::{Repeat, repeats, run_cases};
 use crate::generate::shapes::{Shape, shapes};
 use crate::origin::as_compared;
 use crate::scripts::{Script, scripts};
+use crate::steady::{Steady, fold_until_steady};
 
 /// How much is generated.
 #[derive(Clone, Copy)]
@@ -47,6 +49,7 @@ pub fn check_all(directory: &Path, amount: Amount) -> usize {
     report.part("expected numbers", check_expected);
     report.part("rules", check_rules);
     report.part("shapes", check_shapes);
+    report.part("runs", || check_runs(directory));
     report.part("kept answers", || check_answers(directory));
     check_generated(&mut report, amount);
     report.differences
@@ -152,12 +155,39 @@ fn check_shapes() -> Result<String, String> {
     Ok(format!("the Rust folds {}", letters.join(", ")))
 }
 
+/// The files of the repeat, whose runs, folds and results were worked out by hand.
+fn check_runs(directory: &Path) -> Result<String, String> {
+    let repeats = repeats();
+    for repeat in &repeats {
+        check_run(repeat).map_err(|what| format!("`{}`: {what}", repeat.text))?;
+    }
+    let first = &repeats[0];
+    let (file, result) = paths_of(directory, STEADY);
+    let kept = read(&file)? == first.file.to_bytes() && read(&result)? == first.result.to_bytes();
+    demand(kept, || format!("the kept files aren't `{}` and its result", first.text))?;
+    Ok(format!("{} files had the runs, folds and results worked out by hand", repeats.len()))
+}
+
+fn check_run(repeat: &Repeat) -> Result<(), String> {
+    let Repeat { folds, runs, .. } = *repeat;
+    let [enough, less] = repeat.cases();
+    let wanted = Steady { number: 0, result: repeat.result.to_bytes(), folds, runs };
+    let found = fold_until_steady(&enough.file, enough.room);
+    let numbers = |it: &Steady| (it.number, it.folds, it.runs);
+    let differ = || format!("{:?}, not {:?}", numbers(&found), numbers(&wanted));
+    demand(numbers(&found) == numbers(&wanted), differ)?;
+    demand(found == wanted, || format!("doesn't give `{}`", repeat.result_text))?;
+    let refused = Steady { number: 11, ..Steady::default() };
+    let found = fold_until_steady(&less.file, less.room);
+    demand(found == refused, || format!("{:?} in a byte less", numbers(&found)))
+}
+
 /// The kept lists are those that are made anew, and they read back.
 fn check_answers(directory: &Path) -> Result<String, String> {
     let mut said = Vec::new();
     for list in lists() {
         let (bytes, expected) = (entries(&list.cases), list.cases.len());
-        let count = replay(&bytes)?;
+        let count = replay(&bytes)?.entries;
         for path in list.paths {
             let kept = read(&directory.join(path))?;
             demand(kept == bytes, || format!("{path} isn't the list made anew"))?;
@@ -172,7 +202,8 @@ fn check_answers(directory: &Path) -> Result<String, String> {
 const EACH_FILE: &str = "refused with nothing returned; or read and written back unchanged, folded \
                          with facts, scopes, frames and options copied, a result of at most \
                          length + 8 D bytes, at most (T + 2 D) 3000 looks and D folds, every \
-                         result accepted again in the same room, at most D + 2 runs until steady";
+                         result accepted again in the same room, at most D + 2 runs and D folds \
+                         until steady, the last result folded to itself";
 
 /// Files that are made now, family by family.
 fn check_generated(report: &mut Report, amount: Amount) {
@@ -190,6 +221,7 @@ fn check_generated(report: &mut Report, amount: Amount) {
         hand_made().for_each(|case| family.check(&case));
         rules().iter().for_each(|rule| family.check(&rule.case()));
         shapes().iter().for_each(|shape| family.check(&shape.case()));
+        run_cases().for_each(|case| family.check(&case));
     });
     family("deep nests", &|family| {
         nests().iter().for_each(|(what, file)| family.check(&Case::of_records(what, file)));

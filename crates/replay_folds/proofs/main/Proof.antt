@@ -7,10 +7,10 @@ use Rattle.replay_folds.proofs.main.Statement.{statement}
 use Rattle.replay_folds.proofs.main.Tie as tie
 
 abbrev Inv-loop : tie.InvT-loop
-Inv-loop head₀ file₀ result₀ output₀ totals₀ entry₀ t9 head file result output totals entry = (length file ≡ 65536) × (length result ≡ 65536) × (length output ≡ 65536) × (entry ≤ 1000000)
+Inv-loop head₀ file₀ result₀ steady₀ output₀ folds₀ repeats₀ entry₀ t11 t12 t13 t14 head file result steady output folds repeats entry = (length file ≡ 65536) × (length result ≡ 65536) × (length steady ≡ 65536) × (length output ≡ 65536) × (entry ≤ 1000000)
 
 abbrev μ-loop : tie.MeasureT-loop
-μ-loop head₀ file₀ result₀ output₀ totals₀ entry₀ t9 head file result output totals entry = 1000000 - entry
+μ-loop head₀ file₀ result₀ steady₀ output₀ folds₀ repeats₀ entry₀ t11 t12 t13 t14 head file result steady output folds repeats entry = 1000000 - entry
 
 large-buffer-requires : tie.Need-large-buffer-requires Inv-loop μ-loop
 large-buffer-requires c κs = tt
@@ -21,8 +21,14 @@ large-buffer-requires-2 c κs = tt
 large-buffer-requires-3 : tie.Need-large-buffer-requires-3 Inv-loop μ-loop
 large-buffer-requires-3 c κs = tt
 
+large-buffer-requires-4 : tie.Need-large-buffer-requires-4 Inv-loop μ-loop
+large-buffer-requires-4 c κs = tt
+
 new-requires : tie.Need-new-requires Inv-loop μ-loop
 new-requires c κs = tt
+
+new-requires-2 : tie.Need-new-requires-2 Inv-loop μ-loop
+new-requires-2 c κs = tt
 
 loop-holds : tie.Need-loop-holds Inv-loop μ-loop
 loop-holds c = omega arith
@@ -32,6 +38,9 @@ slice-aggregate-read-entry c = omega arith
 
 slice-aggregate-read-entry-2 : tie.Need-slice-aggregate-read-entry-2 Inv-loop μ-loop
 slice-aggregate-read-entry-2 c = omega arith
+
+slice-aggregate-read-entry-3 : tie.Need-slice-aggregate-read-entry-3 Inv-loop μ-loop
+slice-aggregate-read-entry-3 c = omega arith
 
 read-entry-requires : tie.Need-read-entry-requires Inv-loop μ-loop
 read-entry-requires c κs = omega arith
@@ -45,20 +54,26 @@ slice-aggregate-replay-in-2 c = omega arith
 slice-aggregate-replay-in-3 : tie.Need-slice-aggregate-replay-in-3 Inv-loop μ-loop
 slice-aggregate-replay-in-3 c = omega arith
 
+slice-aggregate-replay-in-4 : tie.Need-slice-aggregate-replay-in-4 Inv-loop μ-loop
+slice-aggregate-replay-in-4 c = omega arith
+
 replay-in-requires : tie.Need-replay-in-requires Inv-loop μ-loop
 replay-in-requires c κs = omega arith
 
 with-requires : tie.Need-with-requires Inv-loop μ-loop
 with-requires c κs = tt
 
+with-requires-2 : tie.Need-with-requires-2 Inv-loop μ-loop
+with-requires-2 c κs = tt
+
 add-entry : tie.Need-add-entry Inv-loop μ-loop
-add-entry c = omega arith
+add-entry c = omega (arith, c .before .before .before .before .before .before .before .before .before .before .before .before .before .before .before .before .before .before .loop-test .taken)
 
 loop-less : tie.Need-loop-less Inv-loop μ-loop
-loop-less c = omega arith
+loop-less c = omega (arith, c .before .before .before .before .before .before .before .before .before .before .before .before .before .before .before .before .before .before .loop-test .taken)
 
 loop-again : tie.Need-loop-again Inv-loop μ-loop
-loop-again c = omega arith
+loop-again c = omega (arith, c .before .before .before .before .before .before .before .before .before .before .before .before .before .before .before .before .before .before .loop-test .taken)
 
 slice-aggregate-put : tie.Need-slice-aggregate-put Inv-loop μ-loop
 slice-aggregate-put c = omega arith
@@ -66,8 +81,23 @@ slice-aggregate-put c = omega arith
 put-requires : tie.Need-put-requires Inv-loop μ-loop
 put-requires c κs = tt
 
+slice-aggregate-end : tie.Need-slice-aggregate-end Inv-loop μ-loop
+slice-aggregate-end c = omega arith
+
+end-requires : tie.Need-end-requires Inv-loop μ-loop
+end-requires c κs = tt
+
+slice-aggregate-print : tie.Need-slice-aggregate-print Inv-loop μ-loop
+slice-aggregate-print c = omega arith
+
 print-requires : tie.Need-print-requires Inv-loop μ-loop
 print-requires c κs = tt
+
+slice-aggregate-print-2 : tie.Need-slice-aggregate-print-2 Inv-loop μ-loop
+slice-aggregate-print-2 c = omega arith
+
+print-requires-2 : tie.Need-print-requires-2 Inv-loop μ-loop
+print-requires-2 c κs = tt
 
 returns : tie.Need-returns Inv-loop μ-loop
 returns c = tt
@@ -81,20 +111,30 @@ main-spec =
     large-buffer-requires
     large-buffer-requires-2
     large-buffer-requires-3
+    large-buffer-requires-4
     new-requires
+    new-requires-2
     loop-holds
     slice-aggregate-read-entry
     slice-aggregate-read-entry-2
+    slice-aggregate-read-entry-3
     read-entry-requires
     slice-aggregate-replay-in
     slice-aggregate-replay-in-2
     slice-aggregate-replay-in-3
+    slice-aggregate-replay-in-4
     replay-in-requires
     with-requires
+    with-requires-2
     add-entry
     loop-less
     loop-again
     slice-aggregate-put
     put-requires
+    slice-aggregate-end
+    end-requires
+    slice-aggregate-print
     print-requires
+    slice-aggregate-print-2
+    print-requires-2
     returns)

@@ -7,16 +7,19 @@ use Rattle.replay_refusals.proofs.main.Statement.{statement}
 use Rattle.replay_refusals.proofs.main.Tie as tie
 
 abbrev Inv-loop : tie.InvT-loop
-Inv-loop head₀ file₀ spare₀ counts₀ entry₀ t6 t7 head file spare counts entry = (length file ≡ 65536) × (length spare ≡ 65536) × (entry ≤ 1000000)
+Inv-loop head₀ file₀ result₀ steady₀ counts₀ entry₀ t7 t8 head file result steady counts entry = (length file ≡ 65536) × (length result ≡ 65536) × (length steady ≡ 65536) × (entry ≤ 1000000)
 
 abbrev μ-loop : tie.MeasureT-loop
-μ-loop head₀ file₀ spare₀ counts₀ entry₀ t6 t7 head file spare counts entry = 1000000 - entry
+μ-loop head₀ file₀ result₀ steady₀ counts₀ entry₀ t7 t8 head file result steady counts entry = 1000000 - entry
 
 large-buffer-requires : tie.Need-large-buffer-requires Inv-loop μ-loop
 large-buffer-requires c κs = tt
 
 large-buffer-requires-2 : tie.Need-large-buffer-requires-2 Inv-loop μ-loop
 large-buffer-requires-2 c κs = tt
+
+large-buffer-requires-3 : tie.Need-large-buffer-requires-3 Inv-loop μ-loop
+large-buffer-requires-3 c κs = tt
 
 loop-holds : tie.Need-loop-holds Inv-loop μ-loop
 loop-holds c = omega arith
@@ -26,6 +29,9 @@ slice-aggregate-replay c = omega arith
 
 slice-aggregate-replay-2 : tie.Need-slice-aggregate-replay-2 Inv-loop μ-loop
 slice-aggregate-replay-2 c = omega arith
+
+slice-aggregate-replay-3 : tie.Need-slice-aggregate-replay-3 Inv-loop μ-loop
+slice-aggregate-replay-3 c = omega arith
 
 replay-requires : tie.Need-replay-requires Inv-loop μ-loop
 replay-requires c κs = omega arith
@@ -65,9 +71,11 @@ main-spec =
     μ-loop
     large-buffer-requires
     large-buffer-requires-2
+    large-buffer-requires-3
     loop-holds
     slice-aggregate-replay
     slice-aggregate-replay-2
+    slice-aggregate-replay-3
     replay-requires
     add-entry
     loop-less

@@ -42,13 +42,13 @@ same-length : tie.Need-same-length
 same-length c = search needs
 
 returns-2 : tie.Need-returns-2
-returns-2 c = with-acceptance ((c .before .before .before .before .before .before .before .before .before .before .before .before .before .before .before .before .args) .file .now) (length ((c .before .before .before .before .before .before .before .before .before .before .before .before .before .before .before .before .args) .output .now)) (written-refused ((c .before .before .before .before .before .before .before .before .before .before .before .before .before .before .before .before .args) .file .now) ((c .before .before .before .before .before .before .before .before .before .before .before .before .before .before .before .before .args) .output .now) ((c .before .before .before .before .before .before .fold-records) .ensures .outcome) ((c .before .before .before .before .before .before .fold-records) .ensures .written) ((c .if2) .taken))
+returns-2 c = with-acceptance ((c .before .before .before .before .before .before .before .before .before .before .before .before .before .before .before .before .args) .file .now) (length ((c .before .before .before .before .before .before .before .before .before .before .before .before .before .before .before .before .args) .output .now)) (written-refused ((c .before .before .before .before .before .before .before .before .before .before .before .before .before .before .before .before .args) .file .now) ((c .before .before .before .before .before .before .before .before .before .before .before .before .before .before .before .before .args) .output .now) ((c .before .before .before .before .before .before .fold-records) .ensures) ((c .if2) .taken))
 
 same-length-2 : tie.Need-same-length-2
 same-length-2 c = search needs
 
 returns-3 : tie.Need-returns-3
-returns-3 c = with-acceptance ((c .before .before .before .before .before .before .before .before .before .before .before .before .before .before .before .before .args) .file .now) (length ((c .before .before .before .before .before .before .before .before .before .before .before .before .before .before .before .before .args) .output .now)) (written-folded ((c .before .before .before .before .before .before .before .before .before .before .before .before .before .before .before .before .args) .file .now) ((c .before .before .before .before .before .before .before .before .before .before .before .before .before .before .before .before .args) .output .now) ((c .before .before .before .before .before .before .fold-records) .ensures .outcome) ((c .before .before .before .before .before .before .fold-records) .ensures .written) (omega (arith, (c .if2) .left)))
+returns-3 c = with-acceptance ((c .before .before .before .before .before .before .before .before .before .before .before .before .before .before .before .before .args) .file .now) (length ((c .before .before .before .before .before .before .before .before .before .before .before .before .before .before .before .before .args) .output .now)) (written-folded ((c .before .before .before .before .before .before .before .before .before .before .before .before .before .before .before .before .args) .file .now) ((c .before .before .before .before .before .before .before .before .before .before .before .before .before .before .before .before .args) .output .now) ((c .before .before .before .before .before .before .fold-records) .ensures) (omega (arith, (c .if2) .left)))
 
 pub fold-spec : {M : Type 1} → statement M
 fold-spec =

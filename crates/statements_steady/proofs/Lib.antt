@@ -1,0 +1,4 @@
+-- Laws of the repeat's code.
+pub mod Comparing
+pub mod Running
+pub mod Returning
