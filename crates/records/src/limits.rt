@@ -1,4 +1,4 @@
-// The numbers that document 01 fixes, which `specs/Limits.antt` has too, and what follows from them.
+// The numbers that document 01 fixes, and what follows from them; `specs/Limits.antt` has the same.
 pub const MAX_NAMES: u16 = 256;
 
 pub const MIN_SCOPES: u16 = 1;
@@ -42,8 +42,7 @@ pub const DECLARATOR_LENGTH: usize = 4;
 
 pub const STATEMENT_LENGTH: usize = 4;
 
-// No accepted file wants more room for its result, and none is longer: every count is at its limit but the declarators', which is 0
-// (one takes the place of two nodes).
+// No accepted file wants more room for its result, and none is longer.
 pub const MAX_ROOM: usize = HEADER_LENGTH
     + NAME_LENGTH * (MAX_NAMES as usize)
     + SCOPE_LENGTH * (MAX_SCOPES as usize)

@@ -6,7 +6,7 @@ use mathlib.Core.List.{List}
 use mathlib.Core.Path.{_≡_, refl}
 use lib.Dec.{eqb}
 use borrow.Author.Tests.{eqb-true, ne-eqb, leb-true}
-use Rattle.records.specs.Limits.{maxNames, maxScopes, maxFrames, maxNodes, maxStatements}
+use Rattle.records.specs.Limits.{maxNames, maxScopes, maxFrames, maxNodes, maxStatements, maxRoom}
 use Rattle.records.specs.Record.{headerOf}
 use Rattle.records.specs.Refusal.{refusal, roomWanted}
 use Rattle.records_refusal.specs.Passing.{HeaderPasses}
@@ -45,7 +45,7 @@ pub with-laws : {A B : Type 0} (file : List ℕ) (room : ℕ) → A × B → A �
 with-laws file room p = (p .0, (p .1, laws file room))
 
 -- no file within the limits wants more room
-pub room-limit : (bs : List ℕ) → HeaderPasses bs (headerOf bs) → roomWanted bs ≤ 42248
+pub room-limit : (bs : List ℕ) → HeaderPasses bs (headerOf bs) → roomWanted bs ≤ maxRoom
 unfolding roomWanted
 room-limit bs p =
     let h = headerOf bs in
