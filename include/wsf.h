@@ -25,6 +25,11 @@ extern "C" {
  * count is the u16, little-endian, at offset 14), or the file is refused with WSF_ROOM. No accepted
  * file wants more than WSF_MOST_ROOM. The result may well be longer than the file, never longer
  * than that room.
+ *
+ * What to reserve before a fold: for the result, the length that wsf_measure gives, which is exact;
+ * for the output lent to wsf_fold, still the room above, whatever that length is. A file that
+ * wsf_measure accepts is folded in every output of that room or more. The last result of
+ * wsf_fold_until_steady may be longer or shorter than the measured one; it fits the room too.
  */
 #define WSF_MOST_ROOM 42248
 
@@ -33,7 +38,7 @@ extern "C" {
  * in docs/EMBEDDING.md, "Refusals".
  */
 enum {
-    WSF_FOLDED = 0, /* the file is accepted, and folded where it can be */
+    WSF_FOLDED = 0, /* the file is accepted, and folded where it can be, or measured */
     WSF_NO_RECORD_FILE = 1,
     WSF_VERSION = 2,
     WSF_HEADER = 3,
@@ -44,7 +49,7 @@ enum {
     WSF_TREES = 8,
     WSF_DECLARED_TWICE = 9,
     WSF_USES = 10,
-    WSF_ROOM = 11 /* the output is too short; the file itself is good */
+    WSF_ROOM = 11 /* the output is too short; the file itself is good. Never of wsf_measure */
 };
 
 typedef struct {
@@ -62,19 +67,28 @@ typedef struct {
                         2 more than the file has declarators; 0 if refused */
 } WsfSteady;
 
+typedef struct {
+    uint64_t number; /* WSF_FOLDED, or the row that refuses the file, WSF_ROOM excepted */
+    uint64_t length; /* bytes of the result that wsf_fold gives; 0 if refused */
+    uint64_t looks;  /* how often the searches of that fold enter an expression
+                        (docs/EMBEDDING.md): at most (T + 2 D) x 3,000, with T statements and D
+                        declarators in the file; 0 if refused */
+} WsfMeasure;
+
 /*
- * What holds of both calls:
+ * What holds of all calls:
  *
- * The output is as it was past the result; all of it, if the file is refused. The file is only read.
+ * The file is only read. An output is as it was past the result; all of it, if the file is refused.
+ * Nothing else is written.
  *
- * Any bytes may be given as a file; none makes the call fail in another way than by its number. The
- * caller sees to it that both pointers are good for their lengths and not null (not even with a
- * length of 0), and that the two don't overlap.
+ * Any bytes may be given as a file; none makes a call fail in another way than by its number. The
+ * caller sees to it that each pointer is good for its length and not null (not even with a length
+ * of 0), and that file and output don't overlap.
  *
- * Threads: no global or static state, no allocation, no system call; any number of threads may fold
- * at the same time. Of the C library it asks for memcpy and memset.
+ * Threads: no global or static state, no allocation, no system call; any number of threads may call
+ * at the same time. Of the C library they ask for memcpy and memset.
  *
- * Stack: 2 MB below the call are enough. The size is measured, not proved (docs/EMBEDDING.md).
+ * Stack: 2 MB below a call are enough. The size is measured, not proved (docs/EMBEDDING.md).
  */
 
 /* Folds the file and writes the result to the start of the output. Folding the result may fold more. */
@@ -82,11 +96,17 @@ WsfAnswer wsf_fold(const uint8_t *file, size_t file_length, uint8_t *output, siz
 
 /*
  * Folds the file, then each result, until a run changes nothing, and writes the last result to the
- * start of the output. It refuses what wsf_fold refuses, and wants the same room. A further call of
- * either function changes nothing.
+ * start of the output. It refuses what wsf_fold refuses, and wants the same room. Folding the last
+ * result, once or until steady, changes nothing.
  */
 WsfSteady wsf_fold_until_steady(const uint8_t *file, size_t file_length, uint8_t *output,
                                 size_t output_length);
+
+/*
+ * Works out what wsf_fold gives, without an output: the length of the result, and the looks. It
+ * refuses what wsf_fold refuses for another reason than the room.
+ */
+WsfMeasure wsf_measure(const uint8_t *file, size_t file_length);
 
 #ifdef __cplusplus
 }

@@ -1,7 +1,7 @@
 //! Folds names that are used once in a record file. The work is done by `libwsf.a`, whose code is
 //! proved; `docs/EMBEDDING.md` has what a loader's author needs to know.
 //!
-//! No allocation, no global state: any number of threads may fold at the same time.
+//! No allocation, no global state: any number of threads may call at the same time.
 
 #![no_std]
 
@@ -40,6 +40,16 @@ pub struct Steady {
     pub runs: usize,
 }
 
+/// A file was measured: the length of the result that `fold` gives, and the fold's looks.
+#[derive(Clone, Copy, PartialEq, Eq, Debug)]
+pub struct Measured {
+    /// The result has exactly so many bytes.
+    pub length: usize,
+    /// So often the fold's searches enter an expression: at most (T + 2 D) x 3,000, with T
+    /// statements and D declarators in the file.
+    pub looks: usize,
+}
+
 /// Folds the file and writes the result to the start of the output. What stands behind the result
 /// stays as it was; so does the whole output if the file is refused.
 pub fn fold(file: &[u8], output: &mut [u8]) -> Result<Folded, Refusal> {
@@ -63,6 +73,16 @@ pub fn fold_until_steady(file: &[u8], output: &mut [u8]) -> Result<Steady, Refus
     Ok(Steady { length, folds, runs })
 }
 
+/// Works out the length of the result that `fold` gives, and the fold's looks, without an output.
+/// It refuses what `fold` refuses, but never with
+/// `Refusal::Room`; what it accepts is folded in every output of `room_for` or more.
+pub fn measure(file: &[u8]) -> Result<Measured, Refusal> {
+    // SAFETY: it is a slice, so its pointer is good for its length. `wsf_measure` asks no more.
+    let answer = unsafe { raw::wsf_measure(file.as_ptr(), file.len()) };
+    accepted(answer.number)?;
+    Ok(Measured { length: size(answer.length), looks: size(answer.looks) })
+}
+
 /// What a returned number says.
 fn accepted(number: u64) -> Result<(), Refusal> {
     match number {
@@ -71,8 +91,11 @@ fn accepted(number: u64) -> Result<(), Refusal> {
     }
 }
 
-/// The room that a call wants for this file: its length and 8 bytes a declarator. Never more than
-/// `MOST_ROOM`, which is enough for every accepted file.
+/// The room that a fold wants for this file, once or until steady: its length and 8 bytes a
+/// declarator. Never more than `MOST_ROOM`, which is enough for every accepted file.
+///
+/// This is what the output has to have, by the file's length and header alone; the result may be
+/// shorter. The length of the result itself is what `measure` gives.
 pub fn room_for(file: &[u8]) -> usize {
     let declarators = match file.get(DECLARATORS_AT..DECLARATORS_AT + 2) {
         Some(count) if file.len() >= HEADER_BYTES => u16::from_le_bytes([count[0], count[1]]),
@@ -81,7 +104,7 @@ pub fn room_for(file: &[u8]) -> usize {
     file.len().saturating_add(ROOM_PER_DECLARATOR * usize::from(declarators)).min(MOST_ROOM)
 }
 
-/// A length or a count of a result; it is at most `MOST_ROOM`.
+/// A length or a count of an answer. The greatest are looks, at most (500 + 2 x 500) x 3,000.
 fn size(number: u64) -> usize {
     usize::try_from(number).expect("it is small")
 }

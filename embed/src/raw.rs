@@ -26,6 +26,18 @@ pub struct WsfSteady {
     pub runs: u64,
 }
 
+/// What `wsf_measure` returns.
+#[repr(C)]
+#[derive(Clone, Copy, PartialEq, Eq, Debug)]
+pub struct WsfMeasure {
+    /// 0 if the file was measured, else the number of the row that refuses it, 1 to 10.
+    pub number: u64,
+    /// How many bytes the result of `wsf_fold` has; 0 for a refusal.
+    pub length: u64,
+    /// How often the searches of that fold enter an expression; 0 for a refusal.
+    pub looks: u64,
+}
+
 unsafe extern "C" {
     /// Folds a file.
     ///
@@ -51,4 +63,11 @@ unsafe extern "C" {
         output: *mut u8,
         output_length: usize,
     ) -> WsfSteady;
+
+    /// Measures the fold of a file.
+    ///
+    /// # Safety
+    ///
+    /// `file` can be read for `file_length` bytes; it isn't null, not even with a length of 0.
+    pub fn wsf_measure(file: *const u8, file_length: usize) -> WsfMeasure;
 }

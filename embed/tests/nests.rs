@@ -1,13 +1,15 @@
 //! `let v = 1;` and a tree of some 2,990 nodes, as deep as its kind allows, with `v` within, folded
-//! on a thread of 2 MB, which is what Rust gives a thread unless told otherwise.
+//! and measured on a thread of 2 MB, which is what Rust gives a thread unless told otherwise.
 
 mod made;
 
 use made::{LITERAL, NAME, file, record};
-use wsf::{Folded, Steady, fold, fold_until_steady, room_for};
+use wsf::{Folded, Measured, Steady, fold, fold_until_steady, measure, room_for};
 
 const STACK_BYTES: usize = 2 << 20;
 const NODES: usize = 2990;
+
+const ASSIGNMENT: u8 = 20;
 
 /// A level's nodes before the next level, each a kind and its children.
 type Level = &'static [(u8, u8)];
@@ -32,10 +34,10 @@ const LEVELS: [Level; 20] = [
     &[(16, 2), (1, 0)],
     &[(17, 2), (1, 0)],
     &[(19, 3), (1, 0), (1, 0)],
-    &[(20, 2), (30, 0)],
+    &[(ASSIGNMENT, 2), (30, 0)],
     &[(28, 2), (1, 0)],
     &[(14, 2), (1, 0)],
-    &[(20, 2), (12, 2), (1, 0), (1, 0)],
+    &[(ASSIGNMENT, 2), (12, 2), (1, 0), (1, 0)],
     &[(21, 2), (7, 0)],
 ];
 
@@ -45,6 +47,12 @@ fn nest(level: Level, within: [u8; 12]) -> Vec<[u8; 12]> {
     let mut nodes = before.repeat(NODES / level.len());
     nodes.push(within);
     nodes
+}
+
+/// The nodes of such a nest that are entered: of an assignment the target isn't.
+fn looks(level: Level) -> usize {
+    let entered = if level[0].0 == ASSIGNMENT { 1 } else { level.len() };
+    NODES / level.len() * entered + 1
 }
 
 const BEFORE: u8 = 0xa5;
@@ -63,6 +71,8 @@ fn check(level: Level) {
     let steady = fold_until_steady(&before, &mut output);
     assert_eq!(steady, Ok(Steady { length: after.len(), folds: 1, runs: 2 }), "{level:?}");
     check_output(&output, &after, level);
+    let measured = Measured { length: after.len(), looks: looks(level) };
+    assert_eq!(measure(&before), Ok(measured), "{level:?}");
 }
 
 fn check_output(output: &[u8], result: &[u8], level: Level) {

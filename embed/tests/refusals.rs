@@ -1,10 +1,10 @@
-//! Each row of the table: a script with one thing changed is refused with the row's number, by both
-//! calls, and the output stays as it was.
+//! Each row of the table: a script with one thing changed is refused with the row's number, by every
+//! call, and the output stays as it was. Measuring has no output, and row 11 doesn't refuse there.
 
 mod kept;
 
 use kept::script;
-use wsf::{Refusal, fold, fold_until_steady, room_for};
+use wsf::{Refusal, fold, fold_until_steady, measure, room_for};
 
 /// A count of the header: names, scopes, frames, nodes, declarators, statements.
 fn count(file: &[u8], part: usize) -> usize {
@@ -28,6 +28,8 @@ fn check(file: &[u8], room: usize, row: Refusal) {
     assert_eq!(fold(file, &mut output), Err(row));
     assert_eq!(fold_until_steady(file, &mut output), Err(row));
     assert_eq!(output, before, "{row}");
+    let measured = if row == Refusal::Room { None } else { Some(row) };
+    assert_eq!(measure(file).err(), measured);
 }
 
 /// The script with the byte at the offset changed.

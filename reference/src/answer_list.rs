@@ -9,6 +9,7 @@ use crate::generate::damage::damaged_case;
 use crate::generate::exhaustive::{passed_files, small_files};
 use crate::generate::facts::facts;
 use crate::generate::limits::limits;
+use crate::generate::looks::{Looked, looked};
 use crate::generate::nests::plain_nests;
 use crate::generate::random_file::random_file;
 use crate::generate::refusals::refusals;
@@ -59,6 +60,7 @@ fn answer_cases() -> Vec<Case> {
     cases.extend(rules().iter().map(Rule::case));
     cases.extend(shapes().iter().map(Shape::case));
     cases.extend(run_cases());
+    cases.extend(looked().iter().map(Looked::case));
     cases.extend(refusal_cases());
     cases.extend(limits().into_iter().filter(|case| !case.bulk));
     cases.extend(plain_nests().iter().map(|(what, file)| Case::of_records(what, file)));

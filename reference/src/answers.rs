@@ -2,6 +2,8 @@
 
 use crate::fold::{Answer, fold};
 use crate::generate::case::Case;
+use crate::measure::{Measured, measure};
+use crate::refusal::ROOM_ROW;
 use crate::steady::{Steady, fold_until_steady};
 
 /// Lengths after which a stretch of bytes may repeat: one record, and two or three of them.
@@ -66,14 +68,16 @@ fn write_bytes(bytes: &[u8], out: &mut Vec<u8>) {
     }
 }
 
-/// Puts the case, its answer and what the repeat gives behind the entries written so far.
+/// Puts the case, its answer, what the repeat gives and what measuring gives behind the entries
+/// written so far.
 pub fn write_entry(case: &Case, out: &mut Vec<u8>) {
     let answer = fold(&case.file, case.room);
     let steady = fold_until_steady(&case.file, case.room);
+    let measured = measure(&case.file);
     out.extend(number(case.room));
     out.extend(answer.number.to_le_bytes());
     out.extend(answer.folds.to_le_bytes());
-    out.extend(number(usize::try_from(answer.looks).expect("it fits")));
+    out.extend(number(usize::try_from(measured.looks).expect("it fits")));
     out.extend(number(case.file.len()));
     let accepted = answer.number == 0;
     let result = (!accepted || answer.result != case.file).then_some(&answer.result);
@@ -83,6 +87,7 @@ pub fn write_entry(case: &Case, out: &mut Vec<u8>) {
     out.extend(steady.folds.to_le_bytes());
     out.extend(steady.runs.to_le_bytes());
     out.extend(length(last));
+    out.extend(number(measured.length));
     let parts = [Some(&case.file), result, last];
     parts.into_iter().flatten().for_each(|bytes| write_bytes(bytes, out));
 }
@@ -100,6 +105,7 @@ struct Entry {
     file: Vec<u8>,
     answer: Answer,
     steady: Steady,
+    measured: Measured,
 }
 
 /// Reads entries until the bytes end.
@@ -142,12 +148,16 @@ impl Reader<'_> {
         let (folds, looks) = (self.count()?, u64::from(self.count()?));
         let (file, result) = (self.number()?, self.number()?);
         let (all_folds, runs, last) = (self.count()?, self.count()?, self.number()?);
+        let length = self.number()?;
         let file = self.bytes(file)?;
         let result = self.bytes_or(result, &file)?;
         let last = self.bytes_or(last, &result)?;
-        let answer = Answer { number, result, folds, looks };
+        let looks_of_answer = if number == 0 { looks } else { 0 };
+        let answer = Answer { number, result, folds, looks: looks_of_answer };
         let steady = Steady { number, result: last, folds: all_folds, runs };
-        Some(Entry { room, file, answer, steady })
+        let row = if number == ROOM_ROW { 0 } else { number };
+        let measured = Measured { number: row, length, looks };
+        Some(Entry { room, file, answer, steady, measured })
     }
 }
 
@@ -177,11 +187,14 @@ pub struct Totals {
     all_folds: u64,
     runs: u64,
     last_bytes: usize,
+    measured: usize,
+    measured_bytes: usize,
+    looks: u64,
 }
 
 impl Totals {
     fn add(&mut self, entry: &Entry) {
-        let Entry { answer, steady, .. } = entry;
+        let Entry { answer, steady, measured, .. } = entry;
         self.entries += 1;
         self.accepted += usize::from(answer.number == 0);
         self.folds += u64::from(answer.folds);
@@ -189,24 +202,32 @@ impl Totals {
         self.all_folds += u64::from(steady.folds);
         self.runs += u64::from(steady.runs);
         self.last_bytes += steady.result.len();
+        self.measured += usize::from(measured.number == 0);
+        self.measured_bytes += measured.length;
+        self.looks += measured.looks;
     }
 
     pub fn line(&self) -> String {
-        let Self { entries, accepted, folds, bytes, all_folds, runs, last_bytes } = self;
+        let Self { entries, accepted, folds, bytes, all_folds, runs, last_bytes, .. } = self;
+        let Self { measured, measured_bytes, looks, .. } = self;
         format!(
             "entries {entries}, accepted {accepted}, folds {folds}, bytes {bytes}; until steady: \
-             folds {all_folds}, runs {runs}, bytes {last_bytes}"
+             folds {all_folds}, runs {runs}, bytes {last_bytes}; measured {measured}, bytes \
+             {measured_bytes}, looks {looks}"
         )
     }
 }
 
-/// Folds every file anew, once and until steady, and compares.
+/// Folds every file anew, once and until steady, measures it, and compares.
 pub fn replay(bytes: &[u8]) -> Result<Totals, String> {
     let mut totals = Totals::default();
     for entry in Reader(bytes) {
         let entry = entry?;
-        let Entry { room, file, answer, steady } = &entry;
-        if fold(file, *room) != *answer || fold_until_steady(file, *room) != *steady {
+        let Entry { room, file, answer, steady, measured } = &entry;
+        let same = fold(file, *room) == *answer
+            && fold_until_steady(file, *room) == *steady
+            && measure(file) == *measured;
+        if !same {
             return Err(format!("entry {} isn't what the fold gives", totals.entries));
         }
         totals.add(&entry);

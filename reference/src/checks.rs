@@ -3,12 +3,13 @@
 use crate::build::room_for;
 use crate::convert::{read_statements, write_statements};
 use crate::fold::{Answer, fold};
+use crate::measure::{Measured, measure};
 use crate::record::{NODE_BYTES, RecordFile, read_header};
-use crate::refusal::{MOST_NODES, read_checked};
+use crate::refusal::{MOST_NODES, ROOM_ROW, read_checked};
 use crate::steady::{Steady, fold_until_steady};
 
 /// How many rows the table has.
-const ROWS: usize = 11;
+const ROWS: usize = ROOM_ROW as usize;
 
 /// What was seen.
 #[derive(Default)]
@@ -21,6 +22,8 @@ pub struct Totals {
     /// Files that came out changed without a fold.
     pub changed: u64,
     pub most_runs: usize,
+    /// Files that were measured, also where the room was short.
+    pub measured: u64,
     pub most_looks: u64,
     /// Files that took D + 2 runs.
     pub at_run_limit: u64,
@@ -32,6 +35,7 @@ impl Totals {
         self.folds += other.folds;
         self.folding += other.folding;
         self.changed += other.changed;
+        self.measured += other.measured;
         self.at_run_limit += other.at_run_limit;
         self.most_runs = self.most_runs.max(other.most_runs);
         self.most_looks = self.most_looks.max(other.most_looks);
@@ -51,7 +55,7 @@ impl Totals {
             .collect();
         format!(
             "files {}, accepted {}, folding {}, folds {}, changed without fold {}, most runs {}, \
-             files that took D + 2 runs {}, most looks {}, refused [{}]",
+             files that took D + 2 runs {}, measured {}, most looks {}, refused [{}]",
             self.files,
             self.accepted(),
             self.folding,
@@ -59,6 +63,7 @@ impl Totals {
             self.changed,
             self.most_runs,
             self.at_run_limit,
+            self.measured,
             self.most_looks,
             refused.join(", ")
         )
@@ -78,7 +83,7 @@ impl Finding {
     }
 }
 
-/// Folds the file in the room and checks the answer.
+/// Folds the file in the room, measures it, and checks the answers.
 pub fn check_file(file: &[u8], room: usize, totals: &mut Totals) -> Result<(), Finding> {
     totals.files += 1;
     let answer = fold(file, room);
@@ -86,6 +91,7 @@ pub fn check_file(file: &[u8], room: usize, totals: &mut Totals) -> Result<(), F
         Err(number) => check_refusal(number, &answer, totals),
         Ok(records) => check_fold(&records, file, room, &answer, totals),
     };
+    let outcome = outcome.and_then(|()| check_measure(file, &answer, totals));
     outcome.map_err(|what| Finding { what, file: file.to_vec() })
 }
 
@@ -107,7 +113,7 @@ fn check_fold(
     totals: &mut Totals,
 ) -> Result<(), String> {
     check_round_trip(records, file)?;
-    check_counts(records, answer)?;
+    check_folds(records, answer)?;
     check_result(records, file, &answer.result)?;
     let steady = fold_until_steady(file, room);
     check_repeat(records, room, &steady)?;
@@ -118,7 +124,6 @@ fn check_fold(
     totals.changed += u64::from(answer.folds == 0 && answer.result != file);
     totals.most_runs = totals.most_runs.max(runs);
     totals.at_run_limit += u64::from(runs == records.declarators.len() + 2);
-    totals.most_looks = totals.most_looks.max(answer.looks);
     Ok(())
 }
 
@@ -128,13 +133,33 @@ fn check_round_trip(records: &RecordFile, file: &[u8]) -> Result<(), String> {
     demand(again.to_bytes() == file, || "reading and writing back changes the file".into())
 }
 
-fn check_counts(records: &RecordFile, answer: &Answer) -> Result<(), String> {
+fn check_folds(records: &RecordFile, answer: &Answer) -> Result<(), String> {
     let declarators = records.declarators.len();
-    let statements = u64::try_from(records.statements.len() + 2 * declarators).expect("small");
-    let most = statements * u64::from(MOST_NODES);
-    demand(answer.looks <= most, || format!("{} looks, more than {most}", answer.looks))?;
     let folds = usize::try_from(answer.folds).expect("small");
     demand(folds <= declarators, || format!("{folds} folds of {declarators} declarators"))
+}
+
+/// Measuring gives what the fold gives in enough room, also where the answer's room was short, and
+/// at most (T + 2 D) x 3,000 looks.
+fn check_measure(file: &[u8], answer: &Answer, totals: &mut Totals) -> Result<(), String> {
+    let measured = measure(file);
+    let by_fold = if answer.number == ROOM_ROW {
+        let declarators = read_header(file).declarators;
+        Measured::from(&fold(file, room_for(file, declarators.into())))
+    } else {
+        Measured::from(answer)
+    };
+    let same = measured == by_fold && measured.number != ROOM_ROW;
+    demand(same, || format!("{measured:?}, {by_fold:?} by the fold"))?;
+    if measured.number == 0 {
+        let header = read_header(file);
+        let most = u64::from(header.statements + 2 * header.declarators) * u64::from(MOST_NODES);
+        let looks = measured.looks;
+        demand(looks <= most, || format!("{looks} looks, more than {most}"))?;
+        totals.measured += 1;
+        totals.most_looks = totals.most_looks.max(looks);
+    }
+    Ok(())
 }
 
 /// The result of one run or of several: it isn't too long, and options and scopes of the header,

@@ -16,6 +16,7 @@ mod effects;
 pub mod fold;
 pub mod foldlist;
 pub mod generate;
+pub mod measure;
 pub mod origin;
 pub mod random;
 pub mod record;

@@ -9,6 +9,7 @@ use reference::commands::batch::{FAMILIES, batch};
 use reference::commands::check::{FULL, SHORT, check_all};
 use reference::commands::program::compare_program;
 use reference::commands::write::write_all;
+use reference::measure::measure;
 use reference::steady::fold_until_steady;
 use reference::{answers, fold, foldlist, origin};
 
@@ -29,6 +30,7 @@ fn run(arguments: &[&str]) -> Result<(), String> {
         ["compare-foldlist", program] => compare_program(Path::new(program)),
         ["fold", room] => fold_input(room),
         ["steady", room] => fold_input_until_steady(room),
+        ["measure"] => measure_input(),
         ["replay"] => replay(&standard_input()?),
         ["batch", family, ref numbers @ ..] => run_batch(family, numbers),
         _ => Err(format!("{USAGE}{FAMILIES}")),
@@ -43,6 +45,7 @@ reference foldlist < FILE             print the lines of foldlist
 reference compare-foldlist PROGRAM    run the program on files and compare its lines
 reference fold ROOM < FILE > RESULT   fold one file
 reference steady ROOM < FILE > RESULT fold one file until it is steady
+reference measure < FILE              print the length of its result and the looks of its fold
 reference replay < ANSWERS            compare answers with the fold's
 reference batch FAMILY > ANSWERS      write the answers of a family of files, which is one of
 ";
@@ -76,6 +79,12 @@ fn fold_input_until_steady(room: &str) -> Result<(), String> {
     let steady = fold_until_steady(&standard_input()?, number(room)?);
     eprintln!("returned {} folds {} runs {}", steady.number, steady.folds, steady.runs);
     io::stdout().write_all(&steady.result).map_err(|error| error.to_string())
+}
+
+fn measure_input() -> Result<(), String> {
+    let measured = measure(&standard_input()?);
+    println!("returned {} length {} looks {}", measured.number, measured.length, measured.looks);
+    Ok(())
 }
 
 /// Compares the answers in the input with the fold's.

@@ -11,6 +11,8 @@ pub const MOST_STATEMENTS: u16 = 500;
 pub const MOST_NODES: u32 = 3000;
 /// What a folded declarator can add to the length.
 pub const ROOM_PER_DECLARATOR: usize = 8;
+/// The last row, which asks for room.
+pub const ROOM_ROW: u32 = 11;
 
 /// The file's records, or the number of the first row that refuses it.
 pub fn read_checked(file: &[u8], room: usize) -> Result<RecordFile, u32> {
@@ -26,7 +28,7 @@ pub fn read_checked(file: &[u8], room: usize) -> Result<RecordFile, u32> {
     refuse(8, trees_are_bad(&records))?;
     refuse(9, a_name_is_declared_twice(&records))?;
     refuse(10, counts_are_exceeded(&records))?;
-    refuse(11, room < file.len() + ROOM_PER_DECLARATOR * records.declarators.len())?;
+    refuse(ROOM_ROW, room < file.len() + ROOM_PER_DECLARATOR * records.declarators.len())?;
     Ok(records)
 }
 

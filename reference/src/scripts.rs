@@ -9,6 +9,7 @@ pub struct Script {
     pub text: &'static str,
     pub result_text: &'static str,
     pub folds: u32,
+    pub looks: u64,
     pub file: RecordFile,
     pub result: RecordFile,
 }
@@ -27,13 +28,17 @@ fn script(
         file
     };
     let (text, result_text) = texts;
-    Script { number: 0, text, result_text, folds, file: file_of(lines), result: file_of(result) }
+    let (file, result) = (file_of(lines), file_of(result));
+    Script { number: 0, text, result_text, folds, looks: 0, file, result }
 }
 
 /// A script that stays as it is.
 fn kept(text: &'static str, names: Vec<Name>, lines: &[Line]) -> Script {
     script((text, "the same"), 0, names, lines, lines)
 }
+
+/// The looks of each script's fold, worked out by hand.
+const LOOKS: [u64; 12] = [3, 0, 3, 2, 3, 3, 3, 1, 2, 2, 9, 5];
 
 /// All scripts, in the order of their numbers.
 pub fn scripts() -> Vec<Script> {
@@ -51,8 +56,8 @@ pub fn scripts() -> Vec<Script> {
         two_declarators(),
         three_declarations(),
     ];
-    for (number, script) in (1..).zip(&mut scripts) {
-        script.number = number;
+    for (number, (script, looks)) in (1..).zip(scripts.iter_mut().zip(LOOKS)) {
+        (script.number, script.looks) = (number, looks);
     }
     scripts
 }

@@ -37,3 +37,7 @@ refusal bs room =
     (row 10 (badCounts (namesOf bs) (forestOf (nodesOf bs)))
     (row 11 (ltb room (roomWanted bs))
     0))))))))))
+
+-- The number that a file is refused with whatever the room, by rows 1 to 10: its refusal in the room that row 11 asks for.
+unfoldable pub fileRefusal : List ℕ → ℕ
+fileRefusal bs = refusal bs (roomWanted bs)

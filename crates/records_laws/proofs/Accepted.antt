@@ -1,7 +1,7 @@
 -- Accepted bytes, by the rows of the refusal table. Assumes nothing.
-use mathlib.Core.Path.{_≡_, refl}
+use mathlib.Core.Path.{_≡_, refl, sym, _∙_}
 use mathlib.Core.Bool.{Bool, true, false, cond, _&&_}
-use mathlib.Core.List.{List, [], _∷_}
+use mathlib.Core.List.{List, [], _∷_, _++_}
 use Prim.Native.Nat.{ℕ, zero, suc, _+_, _≤_}
 use native.Mathlib.Omega.{arith}
 use lib.ListN.{length, getD}
@@ -36,7 +36,7 @@ pub record Accepted (bs : List ℕ) (room : ℕ) : Type 0 where
   pub fits : ltb room (roomWanted bs) ≡ false
 
 -- the number of the first test that holds, where the first of them has number n
-firstHeld : ℕ → List Bool → ℕ
+unfoldable pub firstHeld : ℕ → List Bool → ℕ
 firstHeld n [] = 0
 firstHeld n (t ∷ ts) = cond t n (firstHeld (suc n) ts)
 
@@ -47,20 +47,27 @@ none-held n (true ∷ ts) e i = absurd (omega arith)
 none-held n (false ∷ ts) e zero = refl
 none-held n (false ∷ ts) e (suc i) = none-held (suc n) ts e i
 
+-- rows 1 to 10, which are of the file alone
+unfoldable pub fileTests : List ℕ → List Bool
+fileTests bs =
+    notARecordFile bs ∷ otherVersion (headerOf bs) ∷ outsideLimits (headerOf bs) ∷ otherLength bs (headerOf bs)
+    ∷ badFacts (namesOf bs) (scopesOf bs) (framesOf bs) ∷ badStatements (namesOf bs) (declaratorsOf bs) (statementsOf bs) ∷ badNodes (namesOf bs) (nodesOf bs)
+    ∷ badTrees (declaratorsOf bs) (statementsOf bs) (nodesOf bs) ∷ declaredTwice (declaratorsOf bs) ∷ badCounts (namesOf bs) (forestOf (nodesOf bs)) ∷ []
+
 module _ (bs : List ℕ) (room : ℕ) where
-  -- the rows
-  tests : List Bool
-  tests =
-      notARecordFile bs ∷ otherVersion (headerOf bs) ∷ outsideLimits (headerOf bs) ∷ otherLength bs (headerOf bs)
-      ∷ badFacts (namesOf bs) (scopesOf bs) (framesOf bs) ∷ badStatements (namesOf bs) (declaratorsOf bs) (statementsOf bs) ∷ badNodes (namesOf bs) (nodesOf bs)
-      ∷ badTrees (declaratorsOf bs) (statementsOf bs) (nodesOf bs) ∷ declaredTwice (declaratorsOf bs) ∷ badCounts (namesOf bs) (forestOf (nodesOf bs))
-      ∷ ltb room (roomWanted bs) ∷ []
+  -- all rows
+  abbrev tests : List Bool
+  tests = fileTests bs ++ (ltb room (roomWanted bs) ∷ [])
+
+  pub rows-tested : refusal bs room ≡ firstHeld 1 tests
+  unfolding refusal fileTests firstHeld
+  rows-tested = refl
 
   -- of accepted bytes no row holds
   pub accepted : refusal bs room ≡ 0 → Accepted bs room
-  unfolding refusal tests firstHeld
+  unfolding fileTests
   accepted e =
-      let clear : (i : ℕ) → getD tests i false ≡ false = none-held 0 tests e in
+      let clear : (i : ℕ) → getD tests i false ≡ false = none-held 0 tests (sym rows-tested ∙ e) in
       record {
         isScript = clear 0;
         version = clear 1;

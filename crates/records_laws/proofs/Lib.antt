@@ -11,3 +11,4 @@ pub mod PrintedFile
 pub mod PrintedTests
 pub mod ReadFile
 pub mod RoundTrip
+pub mod Rooms

@@ -130,11 +130,18 @@ pub fn counts_are_bad(file: &[u8], h: Header, reads: &[u16], targets: &[u16]) ->
     !counts_are_good(file, size(h.names), reads, targets)
 }
 
+// The room that row 11 asks for.
+pub fn room_wanted(file: &[u8], h: Header) -> usize
+    requires header { ⌜ IsHeaderOf h (now file) ⌝ }
+    ensures result { λ r. ⌜ r ≡ roomWanted (now (file .entry)) ⌝ }
+{
+    file.len() + ROOM_PER_DECLARATOR * size(h.declarators)
+}
+
 // Row 11.
 pub fn room_is_short(file: &[u8], h: Header, room: usize) -> bool
     requires header { ⌜ IsHeaderOf h (now file) ⌝ }
     ensures result { λ r. ⌜ r ≡ ltb room (roomWanted (now (file .entry))) ⌝ }
 {
-    let wanted = file.len() + ROOM_PER_DECLARATOR * size(h.declarators);
-    room < wanted
+    room < room_wanted(file, h)
 }

@@ -16,22 +16,25 @@ const LONGEST: usize = 65536;
 // The length of a result that is the file itself, or of a repeat's that is the fold's, and so isn't in the list.
 const SAME: usize = 4294967295;
 
-// An entry without its bytes: the length of the output that is offered; what the fold and the repeat are to return; the lengths of
-// the file, of the fold's result and of the repeat's. `there` is false behind the last entry, and if the bytes aren't an entry.
+// An entry without its bytes: the length of the output that is offered; what the fold, the repeat and measuring are to return; the
+// lengths of the file, of the fold's result and of the repeat's. `there` is false behind the last entry, and if the bytes aren't an
+// entry.
 pub struct Entry {
     pub there: bool,
     pub room: usize,
     pub number: usize,
     pub folds: usize,
+    pub looks: usize,
     pub length: usize,
     pub result: usize,
     pub steady_folds: usize,
     pub runs: usize,
     pub steady: usize,
+    pub measured: usize,
 }
 
 // The length of an entry's head.
-pub const HEAD_LENGTH: usize = 36;
+pub const HEAD_LENGTH: usize = 40;
 
 // The length of a result that a list may have.
 fn is_length(count: usize) -> bool {
@@ -50,33 +53,61 @@ fn length_of(count: usize, before: usize) -> usize
     if count <= LONGEST { count } else { 0 }
 }
 
+// The lengths at the head of an entry: of the output that is offered, of the file, of the fold's result and of the repeat's; and
+// whether a list may have those of the bytes that follow.
+struct Lengths {
+    there: bool,
+    room: usize,
+    file: usize,
+    result: usize,
+    steady: usize,
+}
+
+fn lengths_of(head: &[u8; 40]) -> Lengths
+    ensures room { λ r. ⌜ r .room ≤ 65536 ⌝ }
+    ensures file { λ r. ⌜ r .file ≤ 65536 ⌝ }
+    ensures result_length { λ r. ⌜ r .result ≤ 65536 ⌝ }
+    ensures steady_length { λ r. ⌜ r .steady ≤ 65536 ⌝ }
+{
+    let file = length_of(number_at(head, 16), 0);
+    let result = length_of(number_at(head, 20), file);
+    let lengths = (number_at(head, 16) <= LONGEST) & is_length(number_at(head, 20));
+    Lengths {
+        there: lengths & is_length(number_at(head, 32)),
+        room: length_of(number_at(head, 0), 0),
+        file,
+        result,
+        steady: length_of(number_at(head, 32), result),
+    }
+}
+
 // The numbers at the head of an entry.
-fn entry_of(head: &[u8; 36]) -> Entry
+fn entry_of(head: &[u8; 40]) -> Entry
     ensures room { λ r. ⌜ r .room ≤ 65536 ⌝ }
     ensures length { λ r. ⌜ r .length ≤ 65536 ⌝ }
     ensures result_length { λ r. ⌜ r .result ≤ 65536 ⌝ }
     ensures steady_length { λ r. ⌜ r .steady ≤ 65536 ⌝ }
 {
-    let length = length_of(number_at(head, 16), 0);
-    let result = length_of(number_at(head, 20), length);
-    let lengths = (number_at(head, 16) <= LONGEST) & is_length(number_at(head, 20));
+    let lengths = lengths_of(head);
     Entry {
-        there: lengths & is_length(number_at(head, 32)),
-        room: length_of(number_at(head, 0), 0),
+        there: lengths.there,
+        room: lengths.room,
         number: number_at(head, 4),
         folds: number_at(head, 8),
-        length,
-        result,
+        looks: number_at(head, 12),
+        length: lengths.file,
+        result: lengths.result,
         steady_folds: number_at(head, 24),
         runs: number_at(head, 28),
-        steady: length_of(number_at(head, 32), result),
+        steady: lengths.steady,
+        measured: number_at(head, 36),
     }
 }
 
 // So many bytes to the start of `to`: those at the start of `from` where the number at this place of the head says that they are
 // the same, else the next segments of the list; false if the list doesn't have them.
-fn fill_or_copy(head: &[u8; 36], place: usize, from: &[u8], to: &mut [u8], count: usize) -> bool
-    requires place { ⌜ place + 4 ≤ 36 ⌝ }
+fn fill_or_copy(head: &[u8; 40], place: usize, from: &[u8], to: &mut [u8], count: usize) -> bool
+    requires place { ⌜ place + 4 ≤ 40 ⌝ }
     requires from { ⌜ count ≤ length (now from) ⌝ }
     requires to { ⌜ count ≤ length (now to) ⌝ }
 {
@@ -89,7 +120,7 @@ fn fill_or_copy(head: &[u8; 36], place: usize, from: &[u8], to: &mut [u8], count
 
 // Reads the next entry: its file, the fold's result and the repeat's, each to the start of its buffer.
 pub fn read_entry(
-    head: &mut [u8; 36],
+    head: &mut [u8; 40],
     file: &mut [u8],
     result: &mut [u8],
     steady: &mut [u8],

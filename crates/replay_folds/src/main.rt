@@ -1,6 +1,6 @@
 // Reads a list of answers (reference/README.md has its form) from standard input, folds each file in it into an output of
-// the length that it names, once and until it is steady, and prints what isn't as the list says: the number, the folds, the runs,
-// the length of the result, its bytes, or a byte behind it that isn't as it was. Then the totals.
+// the length that it names, once and until it is steady, measures it, and prints what isn't as the list says: the number, the folds,
+// the runs, the looks, the length of the result, its bytes, or a byte behind it that isn't as it was. Then the totals.
 ghost use Prim.Native.Nat.{_≤_};
 ghost use lib.ListN.{length};
 
@@ -14,10 +14,13 @@ use replay_answers::compare::compare;
 use replay_answers::entry::Entry;
 use replay_answers::entry::HEAD_LENGTH;
 use replay_answers::entry::read_entry;
+use returned::MeasuredNumbers;
+use returned::Replayed;
 use returned::Returned;
+use returned::measured_for;
 use returned::returned_for;
 use returned::steady_for;
-use totals::ReplayTotals;
+use totals::AllTotals;
 
 // The fold of a file compared with its entry; `expected` is the result that the entry has.
 fn replay_fold(
@@ -59,13 +62,20 @@ fn replay_steady(
     is
 }
 
-// What both returned.
-struct Both {
-    fold: Returned,
-    steady: Returned,
+// The row that refuses a room, which measuring doesn't have.
+const ROOM_ROW: usize = 11;
+
+// What measuring a file gives, compared with its entry.
+fn replay_measure(entry: usize, e: Entry, file: &[u8]) -> MeasuredNumbers {
+    let is = measured_for(file);
+    let number = if e.number == ROOM_ROW { 0 } else { e.number };
+    compare(entry, b" measured number ", number, is.number);
+    compare(entry, b" measured length ", e.measured, is.length);
+    compare(entry, b" looks ", e.looks, is.looks);
+    is
 }
 
-// Both, with the file, the results and the output at the start of buffers.
+// All three, with the file, the results and the output at the start of buffers.
 fn replay_in(
     entry: usize,
     e: Entry,
@@ -73,7 +83,7 @@ fn replay_in(
     result: &[u8],
     steady: &[u8],
     output: &mut [u8],
-) -> Both
+) -> Replayed
     requires file { ⌜ e .length ≤ length (now file) ⌝ }
     requires result { ⌜ e .result ≤ length (now result) ⌝ }
     requires steady { ⌜ e .steady ≤ length (now steady) ⌝ }
@@ -97,7 +107,12 @@ fn replay_in(
         &steady[..steady_end],
         &mut output[..room],
     );
-    Both { fold, steady }
+    let measure = replay_measure(entry, e, &file[..end]);
+    Replayed {
+        fold,
+        steady,
+        measure,
+    }
 }
 
 fn main() {
@@ -106,8 +121,7 @@ fn main() {
     let mut result = io::large_buffer();
     let mut steady = io::large_buffer();
     let mut output = io::large_buffer();
-    let mut folds = ReplayTotals::new();
-    let mut repeats = ReplayTotals::new();
+    let mut totals = AllTotals::new();
     let mut entry = 0;
     while entry < 1000000 {
         let e = read_entry(&mut head, &mut file, &mut result, &mut steady);
@@ -115,12 +129,10 @@ fn main() {
             break;
         }
         let is = replay_in(entry, e, &file, &result, &steady, &mut output);
-        folds = folds.with(is.fold);
-        repeats = repeats.with(is.steady);
+        totals = totals.with(is);
         entry += 1;
     }
     program_lines::put(b"entries ", entry);
     program_lines::end(b"");
-    folds.print(b"fold: accepted ");
-    repeats.print(b"until steady: accepted ");
+    totals.print();
 }

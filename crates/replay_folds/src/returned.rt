@@ -1,6 +1,8 @@
-// What a fold and a repeat return, as the numbers of a list.
+// What a fold, a repeat and measuring return, as the numbers of a list.
 use statements_fold::FoldAnswer;
 use statements_fold::fold;
+use statements_measure::MeasureAnswer;
+use statements_measure::measure;
 use statements_steady::SteadyAnswer;
 use statements_steady::fold_until_steady;
 
@@ -45,4 +47,33 @@ pub fn steady_for(file: &[u8], output: &mut [u8]) -> Returned {
             runs,
         },
     }
+}
+
+pub struct MeasuredNumbers {
+    pub number: usize,
+    pub length: usize,
+    pub looks: usize,
+}
+
+pub fn measured_for(file: &[u8]) -> MeasuredNumbers {
+    let answer = measure(file);
+    match answer {
+        MeasureAnswer::Refused(number) => MeasuredNumbers {
+            number: number as usize,
+            length: 0,
+            looks: 0,
+        },
+        MeasureAnswer::Measured(length, looks) => MeasuredNumbers {
+            number: 0,
+            length,
+            looks,
+        },
+    }
+}
+
+// What all three returned for a file.
+pub struct Replayed {
+    pub fold: Returned,
+    pub steady: Returned,
+    pub measure: MeasuredNumbers,
 }

@@ -1,8 +1,10 @@
 // What is counted over all entries.
+use crate::returned::MeasuredNumbers;
+use crate::returned::Replayed;
 use crate::returned::Returned;
 use records::number::one;
 
-pub struct ReplayTotals {
+struct ReplayTotals {
     accepted: usize,
     folds: usize,
     runs: usize,
@@ -44,5 +46,67 @@ impl ReplayTotals {
         program_lines::put(b" runs ", self.runs);
         program_lines::put(b" bytes ", self.bytes);
         program_lines::end(b"");
+    }
+}
+
+struct MeasureTotals {
+    measured: usize,
+    bytes: usize,
+    looks: usize,
+}
+
+impl MeasureTotals {
+    pub fn new() -> Self {
+        Self {
+            measured: 0,
+            bytes: 0,
+            looks: 0,
+        }
+    }
+
+    pub fn with(self, r: MeasuredNumbers) -> Self {
+        Self {
+            measured: sum(self.measured, one(r.number == 0)),
+            bytes: sum(self.bytes, r.length),
+            looks: sum(self.looks, r.looks),
+        }
+    }
+
+    pub fn print(self) {
+        program_lines::put(b"measured ", self.measured);
+        program_lines::put(b" bytes ", self.bytes);
+        program_lines::put(b" looks ", self.looks);
+        program_lines::end(b"");
+    }
+}
+
+pub struct AllTotals {
+    folds: ReplayTotals,
+    repeats: ReplayTotals,
+    measures: MeasureTotals,
+}
+
+impl AllTotals {
+    pub fn new() -> Self {
+        Self {
+            folds: ReplayTotals::new(),
+            repeats: ReplayTotals::new(),
+            measures: MeasureTotals::new(),
+        }
+    }
+
+    pub fn with(self, r: Replayed) -> Self {
+        Self {
+            folds: self.folds.with(r.fold),
+            repeats: self.repeats.with(r.steady),
+            measures: self.measures.with(r.measure),
+        }
+    }
+
+    // A line for each call.
+    pub fn print(self) {
+        self.folds.print(b"fold: accepted ");
+        self.repeats.print(b"until steady: accepted ");
+        self.measures.print();
     }
 }

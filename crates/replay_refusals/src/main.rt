@@ -21,7 +21,7 @@ fn number_for(buf: &[u8], end: usize, room: usize) -> u8
 // The next entry of the list; false at its end.
 fn replay(
     entry: usize,
-    head: &mut [u8; 36],
+    head: &mut [u8; 40],
     file: &mut [u8],
     result: &mut [u8],
     steady: &mut [u8],

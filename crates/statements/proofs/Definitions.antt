@@ -147,7 +147,7 @@ module _ (ctx : Context) (ks : List Kept) where
     where
       by : (b : Bool) → let w = cond b (pure []) (pure (reverse [])) in
           (record { number = number; statement = declaration kind (w .result) } ∷ ks ≡ record { number = number; statement = declaration kind (reverse []) } ∷ ks)
-          × None (record { result = record { number = number; statement = declaration kind (w .result) } ∷ ks; trace = w .trace ++ []; looks = 0 + (w .looks + 0) })
+          × None (record { result = record { number = number; statement = declaration kind (w .result) } ∷ ks; trace = w .trace ++ []; searchedNodes = w .searchedNodes ++ []; looks = 0 + (w .looks + 0) })
       by true = (refl, record { traces = refl; looks = refl })
       by false = (refl, record { traces = refl; looks = refl })
 

@@ -6,3 +6,4 @@ pub mod Answers
 pub mod Repeats
 pub mod Totals
 pub mod Lengths
+pub mod Looks

@@ -71,9 +71,9 @@ module _ (ctx : Context) (before : List Statement) (kind : DeclarationKind) wher
   unfolding pure
   ends d earlier target = record { lighter = omega arith; fewer = omega arith }
 
-  looked-shrunk : (nodes declarators looks : ℕ) (w : FromDeclarators) → Shrunk nodes declarators w → Shrunk nodes declarators (looked looks w)
+  looked-shrunk : (nodes declarators : ℕ) (target : Tree) (looks : ℕ) (w : FromDeclarators) → Shrunk nodes declarators w → Shrunk nodes declarators (looked target looks w)
   unfolding looked
-  looked-shrunk nodes declarators looks w s = record { lighter = s .lighter; fewer = s .fewer }
+  looked-shrunk nodes declarators target looks w s = record { lighter = s .lighter; fewer = s .fewer }
 
   tested : (b : Bool) (d : Declarator) (earlier : List Declarator) (target : Tree) (w : FromDeclarators)
       → Shrunk (size target + total declaratorSize (d ∷ earlier)) (length (d ∷ earlier)) w
@@ -89,7 +89,7 @@ module _ (ctx : Context) (before : List Statement) (kind : DeclarationKind) wher
   from-declarator literalOnly d bare earlier target onward e h = ends d earlier target
   from-declarator literalOnly d (given t) earlier target onward e h =
       tested (endsSearch ctx literalOnly (d .name) t) d earlier target _
-      (looked-shrunk _ _ (looksInExpression ctx (d .name) t target) _
+      (looked-shrunk _ _ target (looksInExpression ctx (d .name) t target) _
       (after-answer d t earlier target (substituteInExpression ctx (d .name) t target) onward e (sized ctx (d .name) t target) h))
 
   pub from-declarators : (literalOnly : Bool) (ds : List Declarator) (target : Tree)
@@ -100,11 +100,11 @@ module _ (ctx : Context) (before : List Statement) (kind : DeclarationKind) wher
       from-declarator literalOnly d (d .initializer) earlier target _ refl (λ t. from-declarators literalOnly earlier t)
 
   -- what is left of a list of declarators
-  record Within (nodes declarators : ℕ) (w : Traced (List Declarator)) : Type 0 where
-    lighter : total declaratorSize (w .result) + length (w .result) ≤ nodes + declarators
-    fewer : length (w .result) + length (w .trace) ≡ declarators
+  pub record Within (nodes declarators : ℕ) (w : Traced (List Declarator)) : Type 0 where
+    pub lighter : total declaratorSize (w .result) + length (w .result) ≤ nodes + declarators
+    pub fewer : length (w .result) + length (w .trace) ≡ declarators
 
-  within-declarator : (earlier : List Declarator) (d : Declarator) (i : Initializer) → d .initializer ≡ i
+  pub within-declarator : (earlier : List Declarator) (d : Declarator) (i : Initializer) → d .initializer ≡ i
       → Within (total declaratorSize earlier + declaratorSize d) (length earlier + 1) (withinDeclarator ctx before kind earlier d i)
   unfolding withinDeclarator pure _>>=_ total declaratorSize initializerSize
   within-declarator earlier d bare e = record { lighter = omega arith; fewer = omega arith }
@@ -236,10 +236,10 @@ module _ (ctx : Context) where
   in-statement ks target = or-stays (isUnsearched ctx) ks target _ (from-statements ks target)
 
   -- the same where a declaration's first declarator is searched
-  record First (weights declarators statements : ℕ) (w : Traced (Searched (List Declarator) Kept)) : Type 0 where
-    lighter : total declaratorSize (w .result .target) + length (w .result .target) + total keptWeight (w .result .left) ≤ weights
-    fewer : length (w .result .target) + total keptDeclarators (w .result .left) + length (w .trace) ≡ declarators
-    shorter : length (w .result .left) ≤ statements
+  pub record First (weights declarators statements : ℕ) (w : Traced (Searched (List Declarator) Kept)) : Type 0 where
+    pub lighter : total declaratorSize (w .result .target) + length (w .result .target) + total keptWeight (w .result .left) ≤ weights
+    pub fewer : length (w .result .target) + total keptDeclarators (w .result .left) + length (w .trace) ≡ declarators
+    pub shorter : length (w .result .left) ≤ statements
 
   in-initializer : (ks : List Kept) (d : Declarator) (ds : List Declarator) (i : Initializer) → d .initializer ≡ i
       → First (total declaratorSize (d ∷ ds) + length (d ∷ ds) + total keptWeight ks) (length (d ∷ ds) + total keptDeclarators ks) (length ks)
@@ -255,19 +255,19 @@ module _ (ctx : Context) where
         shorter = l .shorter;
       }
 
-  in-first : (ks : List Kept) (ds : List Declarator)
+  pub in-first : (ks : List Kept) (ds : List Declarator)
       → First (total declaratorSize ds + length ds + total keptWeight ks) (length ds + total keptDeclarators ks) (length ks) (inFirstDeclarator ctx ks ds)
   unfolding inFirstDeclarator
   in-first ks [] = unfold pure in (record { lighter = omega arith; fewer = omega arith; shorter = omega arith })
   in-first ks (d ∷ ds) = in-initializer ks d ds (d .initializer) refl
 
   -- the statements that are kept
-  record Kepts (weights declarators statements : ℕ) (w : Traced (List Kept)) : Type 0 where
-    lighter : total keptWeight (w .result) ≤ weights
-    fewer : total keptDeclarators (w .result) + length (w .trace) ≡ declarators
-    shorter : length (w .result) ≤ statements
+  pub record Kepts (weights declarators statements : ℕ) (w : Traced (List Kept)) : Type 0 where
+    pub lighter : total keptWeight (w .result) ≤ weights
+    pub fewer : total keptDeclarators (w .result) + length (w .trace) ≡ declarators
+    pub shorter : length (w .result) ≤ statements
 
-  fold-statement : (number : ℕ) (ks : List Kept) (s : Statement)
+  pub fold-statement : (number : ℕ) (ks : List Kept) (s : Statement)
       → Kepts (weight s + total keptWeight ks) (length (declaratorsIn s) + total keptDeclarators ks) (1 + length ks) (foldStatement ctx number ks s)
   unfolding foldStatement pure _>>=_ total keptWeight keptDeclarators weight declaratorsIn
   fold-statement number ks (declaration kind ds) =
@@ -328,13 +328,13 @@ statement-trees (expression t) rest = omega arith
 statement-trees other rest = omega arith
 
 -- the nodes and declarators of statements
-weights : (ss : List Statement) → sizes (allTrees ss) + length (allDeclarators ss) ≡ total weight ss
+pub weights : (ss : List Statement) → sizes (allTrees ss) + length (allDeclarators ss) ≡ total weight ss
 unfolding allTrees allDeclarators total size
 weights [] = refl
 weights (s ∷ ss) =
     omega (arith, statement-trees s (allTrees ss), weights ss, length-append (declaratorsIn s) (allDeclarators ss))
 
-declarators : (ss : List Statement) → length (allDeclarators ss) ≡ total (λ s. length (declaratorsIn s)) ss
+pub declarators : (ss : List Statement) → length (allDeclarators ss) ≡ total (λ s. length (declaratorsIn s)) ss
 unfolding allDeclarators total
 declarators [] = refl
 declarators (s ∷ ss) = omega (arith, declarators ss, length-append (declaratorsIn s) (allDeclarators ss))

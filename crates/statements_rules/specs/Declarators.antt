@@ -95,7 +95,7 @@ module _ (ctx : Context) (before : List Statement) (kind : DeclarationKind) wher
   fromDeclarator literalOnly d bare earlier target onward = ended target (d ∷ earlier)
   fromDeclarator literalOnly d (given initializer) earlier target onward =
       cond (endsSearch ctx literalOnly (d .name) initializer) (ended target (d ∷ earlier))
-      (looked (looksInExpression ctx (d .name) initializer target)
+      (looked target (looksInExpression ctx (d .name) initializer target)
       (afterAnswer d initializer earlier target (substituteInExpression ctx (d .name) initializer target) onward))
 
   -- `substitute_single_use_symbol_in_expression_from_declarators`, the last declarator first

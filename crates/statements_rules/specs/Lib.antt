@@ -3,4 +3,5 @@ pub mod Trace
 pub mod Declarators
 pub mod Statements
 pub mod Fold
+pub mod Searches
 pub mod Steady

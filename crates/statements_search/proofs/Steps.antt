@@ -34,7 +34,7 @@ pub record Folds (d : Declarator) (w v : FromDeclarators) (step : Try) : Type 0 
 module _ (ctx : Context) (before : List Statement) (kind : DeclarationKind) (literalOnly : Bool) (d : Declarator) (earlier : List Declarator) (target : Tree) (onward : Tree → FromDeclarators) where
   -- after the answer of a search with so many looks, and where a test may end it before
   abbrev answered : ℕ → Tree → Answer Tree → FromDeclarators
-  answered n initializer a = looked n (afterAnswer ctx before kind d initializer earlier target a onward)
+  answered n initializer a = looked target n (afterAnswer ctx before kind d initializer earlier target a onward)
 
   abbrev tested : Bool → ℕ → Tree → Answer Tree → FromDeclarators
   tested b n initializer a = cond b (ended target (d ∷ earlier)) (answered n initializer a)

@@ -1,21 +1,26 @@
 -- The laws of a result, of any accepted bytes: each is one theorem. Assumes nothing; demand 3 itself is in Demand3.antt.
 use Prim.Native.Nat.{ℕ, _+_, _*_, _≤_}
+use native.Mathlib.Nat.{mul-le-mul-left}
 use native.Mathlib.Omega.{arith}
 use mathlib.Core.List.{List}
 use mathlib.Core.Path.{_≡_, sym, ap, _∙_, subst}
 use lib.ListN.{length}
+use borrow.Author.Tests.{leb-true}
 use Rattle.records.specs.Bytes.{Bytes}
 use Rattle.records.specs.Record.{headerOf}
-use Rattle.records.specs.File.{File, headerFor, namesOf, scopesOf, framesOf, read, print}
+use Rattle.records.specs.Limits.{maxNodes}
+use Rattle.records.specs.Tree.{sizes}
+use Rattle.records.specs.File.{File, headerFor, namesOf, scopesOf, framesOf, allTrees, allDeclarators, read, print}
 use Rattle.records.specs.Refusal.{refusal}
 use Rattle.records.specs.declared.layout.Header.{Header}
 use Rattle.statements_rules.specs.Fold.{foldFile, Returned, accepted, foldBytes}
 use Rattle.statements_rules.proofs.Totals.{declarators-folded}
+use Rattle.statements_rules.proofs.Looks.{file-looks}
 use Rattle.records_laws.proofs.Accepted.{Accepted, accepted as rows-passed, has-length}
 use Rattle.records_laws.proofs.PrintedFile.{printed-header, printed-names, printed-scopes, printed-frames}
 use Rattle.records_laws.proofs.ReadFile.{read-header}
 use Rattle.theory_demands.proofs.Demand3.{result-read}
-use Rattle.theory_demands.proofs.Limits.{Lower, room-lower}
+use Rattle.theory_demands.proofs.Limits.{Lower, limits-parts, room-lower}
 use Rattle.theory_demands.proofs.Acceptance.{lower, same-names, same-scopes, same-frames, result-accepted}
 use Rattle.theory_demands.proofs.ResultBytes.{result-bytes}
 
@@ -119,3 +124,18 @@ module _ (bytes : List ℕ) (room : ℕ) (e : refusal bytes room ≡ 0) where
 
   pub this-scope-copied : headerOf result .«this_scope» ≡ headerOf bytes .«this_scope»
   this-scope-copied = counts .this
+
+  -- "looks never exceed (T + 2D) × 3,000"
+  pub file-looks-most : foldFile (read bytes) .looks ≤ (headerOf bytes .statements + 2 * headerOf bytes .declarators) * maxNodes
+  unfolding headerFor
+  file-looks-most =
+      let h = headerOf bytes in
+      let f = read bytes in
+      let e = read-header bytes room rows in
+      let t = ap (λ (x : Header). x .statements) e in
+      let d = ap (λ (x : Header). x .declarators) e in
+      let m = ap (λ (x : Header). x .nodes) e in
+      let most = leb-true (h .nodes + 2 * h .declarators) maxNodes (limits-parts h (rows .limits) .0 .nodes) in
+      let few : sizes (allTrees (f .statements)) + length (allDeclarators (f .statements)) ≤ maxNodes = omega (arith, d, m, most) in
+      let x = mul-le-mul-left (length (f .statements) + 2 * length (allDeclarators (f .statements))) few in
+      omega (arith, file-looks f, x, t, d)

@@ -120,7 +120,7 @@ module _ (ctx : Context) where
   declarator-moves before k p after lit d bare earlier t onward b u e n = done refl refl
   declarator-moves before k p after lit d (given r) earlier t onward b u e n = by (endsSearch ctx lit (d .name) r) refl
     where
-      by : (b : Bool) → endsSearch ctx lit (d .name) r ≡ b → Found before k p after (d ∷ earlier) t (cond b (record { result = record { target = t; left = d ∷ earlier }; trace = []; looks = 0 }) (looked (looksInExpression ctx (d .name) r t) (afterAnswer ctx before k d r earlier t (substituteInExpression ctx (d .name) r t) onward)))
+      by : (b : Bool) → endsSearch ctx lit (d .name) r ≡ b → Found before k p after (d ∷ earlier) t (cond b (record { result = record { target = t; left = d ∷ earlier }; trace = []; searchedNodes = []; looks = 0 }) (looked t (looksInExpression ctx (d .name) r t) (afterAnswer ctx before k d r earlier t (substituteInExpression ctx (d .name) r t) onward)))
       by true g = done refl refl
       by false g = unfold looked in answer-moves before k p after lit d r earlier t (substituteInExpression ctx (d .name) r t) onward u e g refl n
 
@@ -189,7 +189,7 @@ module _ (ctx : Context) where
             ∙ ap (λ s. inFileOrder earlier ++ (s ∷ statementsAt p t after)) e
             ∙ ap (λ ds. inFileOrder earlier ++ (declaration kind ds ∷ statementsAt p t after)) (sym (ap (λ es. reverse (reverse ds) ++ es) (bare-place t) ∙ append-nil (reverse (reverse ds)) ∙ reverse-reverse ds))
 
-        by : (b : Bool) → isUsing kind ≡ b → Before (k ∷ earlier) t (cond b (record { result = record { target = t; left = k ∷ earlier }; trace = []; looks = 0 }) (w >>= λ w. afterDeclarators ctx k kind earlier (w .target) (w .left) onward))
+        by : (b : Bool) → isUsing kind ≡ b → Before (k ∷ earlier) t (cond b (record { result = record { target = t; left = k ∷ earlier }; trace = []; searchedNodes = []; looks = 0 }) (w >>= λ w. afterDeclarators ctx k kind earlier (w .target) (w .left) onward))
         by true u = done refl refl
         by false u = unfold _>>=_ in same-moves as-before refl refl (then-moves (declarators-moves (inFileOrder earlier) kind p after (nonScopedLiteralOnly ctx) (reverse ds) t u) (left-moves k kind earlier (w .result .target) (w .result .left) onward n))
     statement-moves k (expression x) earlier t onward e n = done refl refl
@@ -200,7 +200,7 @@ module _ (ctx : Context) where
     statements-moves [] t = done refl refl
     statements-moves (k ∷ earlier) t = statement-moves k (k .statement) earlier t (λ t′. fromStatements ctx earlier t′) refl (λ t′. statements-moves earlier t′)
 
-    unsearched-by : (earlier : List Kept) (t : Tree) (b : Bool) → Before earlier t (cond b (record { result = record { target = t; left = earlier }; trace = []; looks = 0 }) (fromStatements ctx earlier t))
+    unsearched-by : (earlier : List Kept) (t : Tree) (b : Bool) → Before earlier t (cond b (record { result = record { target = t; left = earlier }; trace = []; searchedNodes = []; looks = 0 }) (fromStatements ctx earlier t))
     unsearched-by earlier t true = done refl refl
     unsearched-by earlier t false = statements-moves earlier t
 

@@ -39,9 +39,9 @@ module _ (ctx : Context) (kind : DeclarationKind) where
   answer-still before lit d r earlier t (stopped t′) onward i g e z = record { left = refl; again = λ before. rw (i, g, stopped-again ctx (d .name) r t t′ e) }
   answer-still before lit d r earlier t passed onward i g e z = record { left = refl; again = λ before. rw (i, g, e) }
 
-  looked-still : (lit : Bool) (ds : List Declarator) (looks : ℕ) (w : FromDeclarators) → (w .trace ≡ [] → Still lit ds w) → looked looks w .trace ≡ [] → Still lit ds (looked looks w)
+  looked-still : (lit : Bool) (ds : List Declarator) (t : Tree) (looks : ℕ) (w : FromDeclarators) → (w .trace ≡ [] → Still lit ds w) → looked t looks w .trace ≡ [] → Still lit ds (looked t looks w)
   unfolding looked
-  looked-still lit ds looks w h z = let s = h z in record { left = s .left; again = s .again }
+  looked-still lit ds t looks w h z = let s = h z in record { left = s .left; again = s .again }
 
   declarator-still : (before : List Statement) (lit : Bool) (d : Declarator) (i : Initializer) (earlier : List Declarator) (t : Tree) (onward : Tree → FromDeclarators) → d .initializer ≡ i
       → fromDeclarator ctx before kind lit d i earlier t onward .trace ≡ [] → Still lit (d ∷ earlier) (fromDeclarator ctx before kind lit d i earlier t onward)
@@ -50,11 +50,11 @@ module _ (ctx : Context) (kind : DeclarationKind) where
   declarator-still before lit d (given r) earlier t onward e z = by (endsSearch ctx lit (d .name) r) refl z
     where
       searched : FromDeclarators
-      searched = looked (looksInExpression ctx (d .name) r t) (afterAnswer ctx before kind d r earlier t (substituteInExpression ctx (d .name) r t) onward)
+      searched = looked t (looksInExpression ctx (d .name) r t) (afterAnswer ctx before kind d r earlier t (substituteInExpression ctx (d .name) r t) onward)
 
       by : (b : Bool) → endsSearch ctx lit (d .name) r ≡ b → cond b (ended t (d ∷ earlier)) searched .trace ≡ [] → Still lit (d ∷ earlier) (cond b (ended t (d ∷ earlier)) searched)
       by true g z = record { left = refl; again = λ before. (unfold substituteFromDeclarators in rw (e, g)) }
-      by false g z = looked-still lit (d ∷ earlier) (looksInExpression ctx (d .name) r t) _ (λ z. answer-still before lit d r earlier t (substituteInExpression ctx (d .name) r t) onward e g refl z) z
+      by false g z = looked-still lit (d ∷ earlier) t (looksInExpression ctx (d .name) r t) _ (λ z. answer-still before lit d r earlier t (substituteInExpression ctx (d .name) r t) onward e g refl z) z
 
   pub declarators-still : (before : List Statement) (lit : Bool) (ds : List Declarator) (t : Tree) → substituteFromDeclarators ctx before kind lit ds t .trace ≡ [] → Still lit ds (substituteFromDeclarators ctx before kind lit ds t)
   unfolding substituteFromDeclarators pure

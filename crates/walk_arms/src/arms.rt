@@ -96,7 +96,7 @@ pub fn is_specific_id(n: NodeRecord, replacement: Replacement) -> bool
     (n.kind == NAME) & (n.label == replacement.name.0)
 }
 
-// The looks at a node itself; a computed key `__proto__` is one, with no node.
+// The looks at a node itself: 1 for an expression; at a property 1 for the string key of a computed `__proto__`, which has no node.
 pub fn own_looks(n: NodeRecord) -> usize
     ensures result { λ r. ⌜ (r ≡ ownLooks (nodeOf n)) × (r ≤ 1) ⌝ }
 {

@@ -1,4 +1,4 @@
--- A search makes no more looks than there are nodes. Assumes nothing.
+-- A search makes no more looks than its tree has nodes. Assumes nothing.
 use Prim.Native.Nat.{ℕ, _≤_}
 use native.Mathlib.Omega.{arith}
 use mathlib.Core.Bool.{Bool, true, false, cond, _&&_, _||_}

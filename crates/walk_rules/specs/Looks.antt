@@ -10,7 +10,8 @@ use Rattle.walk_rules.specs.Context.{Context}
 use Rattle.walk_rules.specs.Shape.{is, shape}
 use Rattle.walk_rules.specs.Substitute.{Answer, replaced, stopped, passed, Plan, all, first, nothing, value, test, branches, tag, next, plan, substituteInExpression}
 
--- the look at a node; a spread, a property and an elision are none, but a computed key `__proto__` is one, with no node
+-- 1 for an expression: "spread, property, elision and target nodes are none". The Rust also calls its function on the string key of
+-- a computed `__proto__`; that key has no node, so its look is counted at the property.
 unfoldable pub ownLooks : Node → ℕ
 ownLooks n = one (isExpression (n .kind) || is 26 n && computed (n .flags) && proto (n .flags))
 

@@ -1,4 +1,5 @@
 // The fold of a record file, for C and Rust to call; each other call is in a module of its own.
+pub mod measure;
 pub mod steady;
 
 ghost use mathlib.Core.Path.{_≡_};

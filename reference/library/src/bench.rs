@@ -5,14 +5,16 @@ use std::time::{Duration, Instant};
 
 use reference::fold::fold;
 use reference::generate::case::Case;
+use reference::measure::measure;
 use reference::steady::{fold_until_steady, runs};
 
 use crate::call::{self, MOST_ROOM};
-use crate::inputs::{Class, groups, repeated};
+use crate::inputs::{Class, groups, measured, repeated};
 
 /// A sample takes at least so long, and the least time of so many samples counts.
 const SAMPLE: Duration = Duration::from_millis(20);
 const SAMPLES: usize = 5;
+const MEAN: &str = "geometric mean of the ratios";
 
 pub fn bench_all() {
     println!("microseconds for a file, the least of {SAMPLES} samples; library / reference");
@@ -20,9 +22,10 @@ pub fn bench_all() {
     for (what, classes) in groups() {
         println!("{what}");
         let ratios: Vec<f64> = classes.iter().map(bench_class).collect();
-        println!("  {:<42} {:>39.3}", "geometric mean of the ratios", mean(&ratios));
+        println!("  {MEAN:<42} {:>39.3}", mean(&ratios));
     }
     bench_repeats();
+    bench_measures();
 }
 
 fn bench_repeats() {
@@ -31,12 +34,23 @@ fn bench_repeats() {
     );
     println!("{:<85} {:>4} {:>11} {:>8}", "", "runs", "single runs", "ratio");
     let ratios: Vec<[f64; 2]> = repeated().iter().map(bench_repeat).collect();
-    let [beside_reference, beside_runs] = [0, 1].map(|at| {
+    let [beside_reference, beside_runs] = means(&ratios);
+    println!("  {MEAN:<42} {beside_reference:>39.3} {beside_runs:>25.3}");
+}
+
+fn bench_measures() {
+    println!("measured, beside the reference, which folds, and beside wsf_fold");
+    println!("{:<85} {:>11} {:>8}", "", "wsf_fold", "ratio");
+    let ratios: Vec<[f64; 2]> = measured().iter().map(bench_measure).collect();
+    let [beside_reference, beside_fold] = means(&ratios);
+    println!("  {MEAN:<42} {beside_reference:>39.3} {beside_fold:>20.3}");
+}
+
+fn means(ratios: &[[f64; 2]]) -> [f64; 2] {
+    [0, 1].map(|at| {
         let ratios: Vec<f64> = ratios.iter().map(|ratios| ratios[at]).collect();
         mean(&ratios)
-    });
-    let what = "geometric mean of the ratios";
-    println!("  {what:<42} {beside_reference:>39.3} {beside_runs:>25.3}");
+    })
 }
 
 fn mean(ratios: &[f64]) -> f64 {
@@ -66,11 +80,25 @@ fn bench_repeat(class: &Class) -> [f64; 2] {
         &mut || each(cases, |case| call::fold_until_steady(&case.file, &mut output[..case.room])),
         &mut || each(&given, |case| call::fold(&case.file, &mut of_run[..case.room])),
     ]);
-    let files = cases.len() as f64;
-    let (runs, a_file, ratio) =
-        (given.len() as f64 / files, single * 1e6 / files, library / single);
+    let runs = given.len() as f64 / cases.len() as f64;
+    let (a_file, ratio) = (a_file(class, single), library / single);
     let times = times_of(class, reference, library);
     println!("{times} {runs:>4.1} {a_file:>11.2} {ratio:>8.3}");
+    [library / reference, ratio]
+}
+
+/// Prints the times of a class. The ratio to the reference's measuring, and to the fold in the most
+/// room.
+fn bench_measure(class: &Class) -> [f64; 2] {
+    let cases = &class.cases;
+    let mut output = vec![0; MOST_ROOM];
+    let [reference, library, fold] = least([
+        &mut || each(cases, |case| measure(&case.file)),
+        &mut || each(cases, |case| call::measure(&case.file)),
+        &mut || each(cases, |case| call::fold(&case.file, &mut output)),
+    ]);
+    let (a_file, ratio) = (a_file(class, fold), library / fold);
+    println!("{} {a_file:>11.2} {ratio:>8.3}", times_of(class, reference, library));
     [library / reference, ratio]
 }
 
@@ -83,15 +111,19 @@ fn given_to_runs(case: &Case) -> Vec<Case> {
 }
 
 fn times_of(class: &Class, reference: f64, library: f64) -> String {
-    let files = class.cases.len();
-    let a_file = |time: f64| time * 1e6 / files as f64;
     format!(
-        "  {:<42} {files:>6} {:>11.2} {:>11.2} {:>8.3}",
+        "  {:<42} {:>6} {:>11.2} {:>11.2} {:>8.3}",
         class.what,
-        a_file(reference),
-        a_file(library),
+        class.cases.len(),
+        a_file(class, reference),
+        a_file(class, library),
         library / reference
     )
+}
+
+/// The microseconds for a file, by the seconds for all.
+fn a_file(class: &Class, seconds: f64) -> f64 {
+    seconds * 1e6 / class.cases.len() as f64
 }
 
 fn each<T>(cases: &[Case], mut of: impl FnMut(&Case) -> T) {

@@ -1,8 +1,10 @@
 //! The functions of the library called on a file, with an output that tells what was written.
 
+use std::fmt::Debug;
+
 use reference::fold::Answer;
 use reference::steady::Steady;
-use wsf::raw::{wsf_fold, wsf_fold_until_steady};
+use wsf::raw::{WsfMeasure, wsf_fold, wsf_fold_until_steady, wsf_measure};
 
 /// Bytes on either side of the output, which nobody may write.
 const GUARD: usize = 64;
@@ -13,7 +15,7 @@ const ALIGNMENT: usize = 8;
 /// The output starts at so many places of the pattern.
 const PLACES: usize = 4096;
 
-/// The numbers that a call returns. Those of `wsf_fold` have no runs.
+/// The numbers that a fold returns. Those of `wsf_fold` have no runs.
 #[derive(Clone, Copy, PartialEq, Eq, Debug, Default)]
 pub struct Returned {
     pub number: u64,
@@ -22,7 +24,7 @@ pub struct Returned {
     pub runs: u64,
 }
 
-/// A function of the library.
+/// A function of the library that folds.
 #[derive(Clone, Copy)]
 pub struct Function {
     pub name: &'static str,
@@ -47,7 +49,12 @@ pub fn fold_until_steady(file: &[u8], output: &mut [u8]) -> Returned {
     Returned { number: it.number, length: it.length, folds: it.folds, runs: it.runs }
 }
 
-/// What the judge says of a call: the numbers, and the bytes at the start of the output.
+pub fn measure(file: &[u8]) -> WsfMeasure {
+    // SAFETY: a slice.
+    unsafe { wsf_measure(file.as_ptr(), file.len()) }
+}
+
+/// What the judge says of a fold: the numbers, and the bytes at the start of the output.
 #[derive(Clone, Copy)]
 pub struct Judged<'r> {
     pub returned: Returned,
@@ -95,31 +102,45 @@ impl Caller {
         Self { pattern, buffer: Vec::new(), file: Vec::new(), calls: 0, stack }
     }
 
-    /// Calls the function and says what isn't as the judge has it.
-    pub fn compare(
+    /// Folds by the function and says what isn't as the judge has it.
+    pub fn compare_fold(
         &mut self,
         function: Function,
         file: &[u8],
         room: usize,
         judged: Judged,
     ) -> Result<(), String> {
-        self.calls += 1;
+        let shift = self.place(file);
         let before = &self.pattern[self.calls % PLACES..][..room + 2 * GUARD];
-        let shift = self.calls % ALIGNMENT;
-        fill(&mut self.file, shift, file);
         fill(&mut self.buffer, shift, before);
         let output = &mut self.buffer[shift + GUARD..shift + GUARD + room];
-        let returned = match self.stack {
-            Some(bytes) => on_stack(bytes, || (function.call)(&self.file[shift..], output)),
-            None => (function.call)(&self.file[shift..], output),
-        };
+        let given = &self.file[shift..];
+        let returned = on_stack_or_here(self.stack, || (function.call)(given, output));
         same_numbers(returned, judged.returned)?;
         let after = &self.buffer[shift..];
         let end = GUARD + judged.result.len();
         same_bytes(&after[GUARD..end], judged.result, "the result")?;
         same_bytes(&after[end..], &before[end..], "behind the result")?;
         same_bytes(&after[..GUARD], &before[..GUARD], "before the output")?;
-        same_bytes(&self.file[shift..], file, "the file")
+        same_bytes(given, file, "the file")
+    }
+
+    /// Measures and says what isn't as the judge has it.
+    pub fn compare_measure(&mut self, file: &[u8], judged: WsfMeasure) -> Result<(), String> {
+        let shift = self.place(file);
+        let given = &self.file[shift..];
+        let returned = on_stack_or_here(self.stack, || measure(given));
+        same_numbers(returned, judged)?;
+        same_bytes(given, file, "the file")
+    }
+
+    /// Copies the file to where the next call gets it, and says how far from a multiple of the
+    /// alignment that is.
+    fn place(&mut self, file: &[u8]) -> usize {
+        self.calls += 1;
+        let shift = self.calls % ALIGNMENT;
+        fill(&mut self.file, shift, file);
+        shift
     }
 }
 
@@ -138,7 +159,15 @@ pub fn on_stack<T: Send>(bytes: usize, run: impl FnOnce() -> T + Send) -> T {
     })
 }
 
-fn same_numbers(found: Returned, wanted: Returned) -> Result<(), String> {
+/// The same where a size is given, else runs it on the caller's stack.
+fn on_stack_or_here<T: Send>(stack: Option<usize>, run: impl FnOnce() -> T + Send) -> T {
+    match stack {
+        Some(bytes) => on_stack(bytes, run),
+        None => run(),
+    }
+}
+
+fn same_numbers<T: PartialEq + Debug>(found: T, wanted: T) -> Result<(), String> {
     if found == wanted { Ok(()) } else { Err(format!("{found:?}, not {wanted:?}")) }
 }
 

@@ -2,11 +2,12 @@
 
 use reference::fold::Answer;
 use reference::generate::case::Case;
+use reference::measure::Measured;
 use reference::refusal::read_checked;
 use reference::steady::{Steady, runs};
 
 use crate::call::{Caller, FUNCTIONS, Judged, MOST_ROOM};
-use crate::calls::Calls;
+use crate::calls::{Folds, Measures};
 
 const ROWS: usize = 11;
 /// Of so many files one is folded without any room and with the most room too.
@@ -17,11 +18,12 @@ pub struct Compared {
     caller: Caller,
     files: u64,
     longest: usize,
-    /// Bytes of outputs, for each function.
+    /// Bytes of outputs, for each function that folds.
     bytes: u64,
-    /// Calls of each function that returned 0, and that returned each row.
+    /// Calls of each such function that returned 0, and that returned each row.
     returned: [u64; ROWS + 1],
-    functions: [Calls; 2],
+    folds: [Folds; 2],
+    measures: Measures,
 }
 
 impl Compared {
@@ -33,7 +35,8 @@ impl Compared {
             longest: 0,
             bytes: 0,
             returned: [0; ROWS + 1],
-            functions: FUNCTIONS.map(Calls::new),
+            folds: FUNCTIONS.map(Folds::new),
+            measures: Measures::default(),
         }
     }
 
@@ -56,7 +59,8 @@ impl Compared {
         }
     }
 
-    /// Each function in each room. The runs are those that the judge makes in the most room.
+    /// The file folded by each function in each room, and measured once. The runs are those that
+    /// the judge makes in the most room.
     fn file(&mut self, file: &[u8], rooms: &[usize], runs: &[Answer]) {
         let steady = Steady::of_runs(runs.iter().cloned());
         for &room in rooms {
@@ -67,10 +71,11 @@ impl Compared {
                 None => [Judged::from(&runs[0]), Judged::from(&steady)],
                 Some(number) => [Judged::refusal(number); 2],
             };
-            for (calls, judged) in self.functions.iter_mut().zip(judged) {
-                calls.call(&mut self.caller, file, room, judged);
+            for (folds, judged) in self.folds.iter_mut().zip(judged) {
+                folds.call(&mut self.caller, file, room, judged);
             }
         }
+        self.measures.call(&mut self.caller, file, Measured::from(&runs[0]));
     }
 
     pub fn add(&mut self, other: &Self) {
@@ -80,13 +85,15 @@ impl Compared {
         for (sum, more) in self.returned.iter_mut().zip(other.returned) {
             *sum += more;
         }
-        for (sum, more) in self.functions.iter_mut().zip(&other.functions) {
+        for (sum, more) in self.folds.iter_mut().zip(&other.folds) {
             sum.add(more);
         }
+        self.measures.add(&other.measures);
     }
 
     pub fn differences(&self) -> u64 {
-        self.functions.iter().map(Calls::differences).sum()
+        let folds: u64 = self.folds.iter().map(Folds::differences).sum();
+        folds + self.measures.differences()
     }
 
     pub fn line(&self) -> String {
@@ -95,15 +102,16 @@ impl Compared {
             .map(|row| format!("{row}: {}", self.returned[row]))
             .collect();
         format!(
-            "files {}, longest {}; calls of each function {}, of these accepted {}, refused [{}], \
-             bytes of output {}; {}",
+            "files {}, longest {}; calls of each function that folds {}, of these accepted {}, \
+             refused [{}], bytes of output {}; {}; {}",
             self.files,
             self.longest,
             self.returned.iter().sum::<u64>(),
             self.returned[0],
             refused.join(", "),
             self.bytes,
-            self.functions.each_ref().map(Calls::line).join("; "),
+            self.folds.each_ref().map(Folds::line).join("; "),
+            self.measures.line(),
         )
     }
 }

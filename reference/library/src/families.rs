@@ -8,13 +8,9 @@ use reference::generate::case::Case;
 use reference::generate::damage::damaged_case;
 use reference::generate::exhaustive::{passed_files, small_files};
 use reference::generate::facts::facts;
-use reference::generate::limits::limits;
 use reference::generate::nests::nests;
 use reference::generate::random_file::random_file;
-use reference::generate::refusals::refusals;
-use reference::generate::rules::rules;
-use reference::generate::runs::run_cases;
-use reference::generate::shapes::shapes;
+use reference::generate::worked_out;
 use reference::scripts::scripts;
 
 use crate::amount::{Amount, Table};
@@ -24,7 +20,8 @@ use crate::compare::Compared;
 const EACH_FILE: &str = "number, length, folds, runs and every byte of the output, written or not, \
                          and 64 bytes on either side of it, in the room that row 11 wants or the \
                          case has, a byte less and more; of one file in 16 no room and 65536 bytes \
-                         too; then each result again until one stays";
+                         too; once for each file the number, length and looks that are measured; \
+                         then each result again until one stays";
 
 /// Trees of a long file have up to so many nodes.
 const LONG: usize = 2500;
@@ -81,10 +78,7 @@ fn hand_made(compared: &mut Compared) {
     for script in scripts() {
         compared.case(&Case::of_records(script.text, &script.file));
     }
-    refusals().iter().chain(&limits()).for_each(|case| compared.case(case));
-    rules().iter().for_each(|rule| compared.case(&rule.case()));
-    shapes().iter().for_each(|shape| compared.case(&shape.case()));
-    run_cases().for_each(|case| compared.case(&case));
+    worked_out().for_each(|case| compared.case(&case));
 }
 
 fn deep_nests(compared: &mut Compared) {

@@ -75,16 +75,18 @@ fn deepest() -> Vec<Class> {
     nests().iter().map(of).collect()
 }
 
+/// Files that the row refuses.
+fn refused_with(row: u32) -> Class {
+    let cases = refusals().into_iter().filter(|case| case.expected == Some(row));
+    class(format!("refused with {row}"), cases.collect())
+}
+
 /// Files that each row refuses.
 fn refused() -> Vec<Class> {
-    let row = |number: u32| {
-        let cases = refusals().into_iter().filter(|case| case.expected == Some(number));
-        class(format!("refused with {number}"), cases.collect())
-    };
     let longest = limits().into_iter().find(|case| case.what == "the longest file");
     let longest = longest.expect("it is among the limits");
     let room = longest.room - 1;
-    let mut classes: Vec<Class> = (1..=11).map(row).collect();
+    let mut classes: Vec<Class> = (1..=11).map(refused_with).collect();
     classes.retain(|class| !class.cases.is_empty());
     classes.push(class("refused with 11, the longest file", vec![longest.in_room(room)]));
     classes
@@ -99,6 +101,19 @@ pub fn repeated() -> Vec<Class> {
     let mut classes: Vec<Class> = typical().into_iter().chain(largest()).collect();
     classes.push(class("three runs, small files", small));
     classes.extend(large.into_iter().map(|case| class(case.what.clone(), vec![case])));
+    classes
+}
+
+/// Files to measure: the nests, and those that are refused whatever the room is, as one class each.
+pub fn measured() -> Vec<Class> {
+    let together = |what: &str, classes: Vec<Class>| {
+        class(what, classes.into_iter().flat_map(|it| it.cases).collect())
+    };
+    let refused = (1..=10).map(refused_with).collect();
+    let mut classes: Vec<Class> =
+        typical().into_iter().chain(largest()).chain(most_folds()).collect();
+    classes.push(together("the deepest nests", deepest()));
+    classes.push(together("refused with 1 to 10", refused));
     classes
 }
 

@@ -35,7 +35,7 @@ fn run(arguments: &[&str]) -> Result<(), String> {
             Ok(())
         }
         ["stack"] => {
-            stack::measure();
+            stack::print_all();
             Ok(())
         }
         _ => Err(USAGE.into()),

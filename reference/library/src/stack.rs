@@ -3,7 +3,7 @@
 
 use reference::generate::case::Case;
 
-use crate::call::{FUNCTIONS, Function, MOST_ROOM, on_stack};
+use crate::call::{MOST_ROOM, fold, fold_until_steady, measure, on_stack};
 use crate::inputs::{Class, groups, repeated};
 
 /// The thread's stack; of it so much is painted below the caller.
@@ -13,27 +13,36 @@ const PAINTED: usize = 24 << 20;
 const NEAR: usize = 1024;
 const PAINT: u8 = 0xa5;
 
-pub fn measure() {
-    for function in FUNCTIONS {
-        println!("bytes of stack below the caller of {}, the most of a group", function.name);
+/// A call on a file, with an output for those that fold. The returned number.
+type Call = fn(&[u8], &mut [u8]) -> u64;
+
+const CALLS: [(&str, Call); 3] = [
+    ("wsf_fold", |file, output| fold(file, output).number),
+    ("wsf_fold_until_steady", |file, output| fold_until_steady(file, output).number),
+    ("wsf_measure", |file, _| measure(file).number),
+];
+
+pub fn print_all() {
+    for (name, call) in CALLS {
+        println!("bytes of stack below the caller of {name}, the most of a group");
         for (what, classes) in groups().into_iter().chain([("until steady", repeated())]) {
-            let most = classes.iter().map(|class| (most_of(function, class), &class.what)).max();
+            let most = classes.iter().map(|class| (most_of(call, class), &class.what)).max();
             let (bytes, which) = most.expect("no group is empty");
             println!("{what}: {bytes} ({which})");
         }
     }
 }
 
-fn most_of(function: Function, class: &Class) -> usize {
-    let used = |case: &Case| on_stack(STACK_BYTES, || used_by(function, &case.file, case.room));
+fn most_of(call: Call, class: &Class) -> usize {
+    let used = |case: &Case| on_stack(STACK_BYTES, || used_by(call, &case.file, case.room));
     class.cases.iter().map(used).max().unwrap_or(0)
 }
 
-fn used_by(function: Function, file: &[u8], room: usize) -> usize {
+fn used_by(call: Call, file: &[u8], room: usize) -> usize {
     let mut output = vec![0; MOST_ROOM];
     let here = &raw const output as usize;
     paint(here);
-    (function.call)(file, &mut output[..room]);
+    call(file, &mut output[..room]);
     here - lowest_change(here)
 }
 

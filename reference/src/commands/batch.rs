@@ -9,6 +9,7 @@ use crate::generate::damage::damaged_case;
 use crate::generate::exhaustive::{passed_files, small_files};
 use crate::generate::facts::facts;
 use crate::generate::limits::limits;
+use crate::generate::looks::looked;
 use crate::generate::nests::nests;
 use crate::generate::random_file::random_file;
 use crate::generate::refusals::refusals;
@@ -18,7 +19,7 @@ use crate::generate::shapes::shapes;
 
 /// The names of the families, with their numbers.
 pub const FAMILIES: &str = "random SEED FIRST COUNT SIZE | damaged SEED FIRST COUNT SIZE | \
-                            small NODES | passed NODES | facts | rules | shapes | runs | \
+                            small NODES | passed NODES | facts | rules | shapes | runs | looks | \
                             nests | limits | refusals | lengths | bytes";
 
 /// Writes the entries of a family to the output.
@@ -53,6 +54,7 @@ fn each_case(family: &str, numbers: &[u64], put: &mut dyn FnMut(Case)) -> Result
         ("rules", []) => rules().iter().for_each(|rule| put(rule.case())),
         ("shapes", []) => shapes().iter().for_each(|shape| put(shape.case())),
         ("runs", []) => run_cases().for_each(put),
+        ("looks", []) => looked().iter().for_each(|it| put(it.case())),
         ("limits", []) => limits().into_iter().for_each(put),
         ("refusals", []) => refusals().into_iter().for_each(put),
         ("lengths", []) => lengths(put),

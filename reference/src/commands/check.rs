@@ -16,12 +16,15 @@ use crate::generate::damage::damaged_case;
 use crate::generate::exhaustive::{Emit, passed_files, small_files};
 use crate::generate::facts::facts;
 use crate::generate::limits::limits;
+use crate::generate::looks::looked;
 use crate::generate::nests::nests;
 use crate::generate::random_file::random_file;
 use crate::generate::refusals::refusals;
 use crate::generate::rules::rules;
-use crate::generate::runs::{Repeat, repeats, run_cases};
+use crate::generate::runs::{Repeat, repeats};
 use crate::generate::shapes::{Shape, shapes};
+use crate::generate::worked_out;
+use crate::measure::{Measured, measure};
 use crate::origin::as_compared;
 use crate::scripts::{Script, scripts};
 use crate::steady::{Steady, fold_until_steady};
@@ -50,6 +53,7 @@ pub fn check_all(directory: &Path, amount: Amount) -> usize {
     report.part("rules", check_rules);
     report.part("shapes", check_shapes);
     report.part("runs", || check_runs(directory));
+    report.part("looks", check_looks);
     report.part("kept answers", || check_answers(directory));
     check_generated(&mut report, amount);
     report.differences
@@ -102,7 +106,10 @@ fn check_script(directory: &Path, script: &Script) -> Result<(), String> {
     let answer = fold(&file, room);
     demand(answer.number == 0, || format!("refused with {}", answer.number))?;
     demand(answer.result == result, || format!("doesn't fold to `{}`", script.result_text))?;
-    demand(answer.folds == script.folds, || format!("{} folds", answer.folds))
+    demand(answer.folds == script.folds, || format!("{} folds", answer.folds))?;
+    let (measured, looks) = (measure(&file), script.looks);
+    let wanted = Measured { number: 0, length: result.len(), looks };
+    demand(measured == wanted, || format!("{measured:?}, not {wanted:?}"))
 }
 
 /// The lengths and lines that are stated for script 1.
@@ -114,14 +121,10 @@ fn check_first_script(script: &Script) -> Result<(), String> {
     demand(lines == "fold 1 statements 1 nodes 3\ns 0 5 0 3\n", || format!("script 1: {lines}"))
 }
 
-fn hand_made() -> impl Iterator<Item = Case> {
-    refusals().into_iter().chain(limits())
-}
-
 /// The cases whose number was worked out by hand.
 fn check_expected() -> Result<String, String> {
     let mut count = 0;
-    for case in hand_made() {
+    for case in refusals().into_iter().chain(limits()) {
         let number = fold(&case.file, case.room).number;
         let expected = case.expected.expect("these cases have one");
         demand(number == expected, || format!("{}: {number}, not {expected}", case.what))?;
@@ -182,6 +185,18 @@ fn check_run(repeat: &Repeat) -> Result<(), String> {
     demand(found == refused, || format!("{:?} in a byte less", numbers(&found)))
 }
 
+/// The files whose looks were worked out by hand.
+fn check_looks() -> Result<String, String> {
+    let files = looked();
+    for it in &files {
+        let Measured { number, looks, .. } = measure(&it.case().file);
+        let holds = number == 0 && looks == it.looks();
+        let differ = || format!("`{}`: {looks} looks, not at `{}`", it.text, it.entered);
+        demand(holds, differ)?;
+    }
+    Ok(format!("{} files had the looks worked out by hand", files.len()))
+}
+
 /// The kept lists are those that are made anew, and they read back.
 fn check_answers(directory: &Path) -> Result<String, String> {
     let mut said = Vec::new();
@@ -201,9 +216,10 @@ fn check_answers(directory: &Path) -> Result<String, String> {
 /// What `check_file` asks.
 const EACH_FILE: &str = "refused with nothing returned; or read and written back unchanged, folded \
                          with facts, scopes, frames and options copied, a result of at most \
-                         length + 8 D bytes, at most (T + 2 D) 3000 looks and D folds, every \
-                         result accepted again in the same room, at most D + 2 runs and D folds \
-                         until steady, the last result folded to itself";
+                         length + 8 D bytes and at most D folds, every result accepted again in \
+                         the same room, at most D + 2 runs and D folds until steady, the last \
+                         result folded to itself; measured as folded in enough room, whatever the \
+                         room is, with at most (T + 2 D) 3000 looks";
 
 /// Files that are made now, family by family.
 fn check_generated(report: &mut Report, amount: Amount) {
@@ -217,12 +233,7 @@ fn check_generated(report: &mut Report, amount: Amount) {
             family.outcome()
         });
     };
-    family("hand-made files", &|family| {
-        hand_made().for_each(|case| family.check(&case));
-        rules().iter().for_each(|rule| family.check(&rule.case()));
-        shapes().iter().for_each(|shape| family.check(&shape.case()));
-        run_cases().for_each(|case| family.check(&case));
-    });
+    family("hand-made files", &|family| worked_out().for_each(|case| family.check(&case)));
     family("deep nests", &|family| {
         nests().iter().for_each(|(what, file)| family.check(&Case::of_records(what, file)));
     });

@@ -2,7 +2,8 @@
 //! them all.
 
 use super::case::Case;
-use crate::build::{Line, PLAIN_NAME, Tree, UNRESOLVED_NAME, declared_name, empty_file, push_line};
+use super::trees::{positioned, searched};
+use crate::build::{PLAIN_NAME, Tree, UNRESOLVED_NAME, declared_name};
 use crate::record::*;
 
 pub struct Shape {
@@ -27,13 +28,7 @@ pub fn shapes() -> Vec<Shape> {
 
 /// `let v = <initializer>; <tree>`, where the other name is as given.
 fn file(other: Name, initializer: Tree, tree: Tree) -> RecordFile {
-    let mut file = empty_file(vec![declared_name(1), other]);
-    push_line(&mut file, &Line::declare(statement::LET, SEARCHED, initializer));
-    push_line(&mut file, &Line::Expression(tree));
-    for (place, node) in (10..).zip(&mut file.nodes) {
-        node.position = place;
-    }
-    file
+    positioned(vec![declared_name(1), other], &searched(initializer, tree))
 }
 
 fn effect() -> Tree {

@@ -7,10 +7,10 @@ use Rattle.replay_folds.proofs.main.Statement.{statement}
 use Rattle.replay_folds.proofs.main.Tie as tie
 
 abbrev Inv-loop : tie.InvT-loop
-Inv-loop head₀ file₀ result₀ steady₀ output₀ folds₀ repeats₀ entry₀ t11 t12 t13 t14 head file result steady output folds repeats entry = (length file ≡ 65536) × (length result ≡ 65536) × (length steady ≡ 65536) × (length output ≡ 65536) × (entry ≤ 1000000)
+Inv-loop head₀ file₀ result₀ steady₀ output₀ totals₀ entry₀ t9 t10 head file result steady output totals entry = (length file ≡ 65536) × (length result ≡ 65536) × (length steady ≡ 65536) × (length output ≡ 65536) × (entry ≤ 1000000)
 
 abbrev μ-loop : tie.MeasureT-loop
-μ-loop head₀ file₀ result₀ steady₀ output₀ folds₀ repeats₀ entry₀ t11 t12 t13 t14 head file result steady output folds repeats entry = 1000000 - entry
+μ-loop head₀ file₀ result₀ steady₀ output₀ totals₀ entry₀ t9 t10 head file result steady output totals entry = 1000000 - entry
 
 large-buffer-requires : tie.Need-large-buffer-requires Inv-loop μ-loop
 large-buffer-requires c κs = tt
@@ -26,9 +26,6 @@ large-buffer-requires-4 c κs = tt
 
 new-requires : tie.Need-new-requires Inv-loop μ-loop
 new-requires c κs = tt
-
-new-requires-2 : tie.Need-new-requires-2 Inv-loop μ-loop
-new-requires-2 c κs = tt
 
 loop-holds : tie.Need-loop-holds Inv-loop μ-loop
 loop-holds c = omega arith
@@ -63,17 +60,17 @@ replay-in-requires c κs = omega arith
 with-requires : tie.Need-with-requires Inv-loop μ-loop
 with-requires c κs = tt
 
-with-requires-2 : tie.Need-with-requires-2 Inv-loop μ-loop
-with-requires-2 c κs = tt
-
 add-entry : tie.Need-add-entry Inv-loop μ-loop
-add-entry c = omega (arith, c .before .before .before .before .before .before .before .before .before .before .before .before .before .before .before .before .before .before .loop-test .taken)
+add-entry c = omega (arith, c .before .before .before .before .before .before .before .before .before .before .before .before .before .before .before .before .before .loop-test .taken)
 
 loop-less : tie.Need-loop-less Inv-loop μ-loop
-loop-less c = omega (arith, c .before .before .before .before .before .before .before .before .before .before .before .before .before .before .before .before .before .before .loop-test .taken)
+loop-less c = omega (arith, c .before .before .before .before .before .before .before .before .before .before .before .before .before .before .before .before .before .loop-test .taken)
 
 loop-again : tie.Need-loop-again Inv-loop μ-loop
-loop-again c = omega (arith, c .before .before .before .before .before .before .before .before .before .before .before .before .before .before .before .before .before .before .loop-test .taken)
+loop-again c =
+    let r = c .before .before .before .before .before .before .before .before .before .before .before .before in
+    let l = r .before .before .before .before .before in
+    omega (arith, l .loop-test .taken, l .before .loop .inv, r .read-entry .kept, c .before .before .replay-in .kept)
 
 slice-aggregate-put : tie.Need-slice-aggregate-put Inv-loop μ-loop
 slice-aggregate-put c = omega arith
@@ -87,17 +84,8 @@ slice-aggregate-end c = omega arith
 end-requires : tie.Need-end-requires Inv-loop μ-loop
 end-requires c κs = tt
 
-slice-aggregate-print : tie.Need-slice-aggregate-print Inv-loop μ-loop
-slice-aggregate-print c = omega arith
-
 print-requires : tie.Need-print-requires Inv-loop μ-loop
 print-requires c κs = tt
-
-slice-aggregate-print-2 : tie.Need-slice-aggregate-print-2 Inv-loop μ-loop
-slice-aggregate-print-2 c = omega arith
-
-print-requires-2 : tie.Need-print-requires-2 Inv-loop μ-loop
-print-requires-2 c κs = tt
 
 returns : tie.Need-returns Inv-loop μ-loop
 returns c = tt
@@ -113,7 +101,6 @@ main-spec =
     large-buffer-requires-3
     large-buffer-requires-4
     new-requires
-    new-requires-2
     loop-holds
     slice-aggregate-read-entry
     slice-aggregate-read-entry-2
@@ -125,7 +112,6 @@ main-spec =
     slice-aggregate-replay-in-4
     replay-in-requires
     with-requires
-    with-requires-2
     add-entry
     loop-less
     loop-again
@@ -133,8 +119,5 @@ main-spec =
     put-requires
     slice-aggregate-end
     end-requires
-    slice-aggregate-print
     print-requires
-    slice-aggregate-print-2
-    print-requires-2
     returns)

@@ -36,6 +36,12 @@ slice-aggregate-replay-steady-3 c = sym (length-take-le _ _ (omega arith))
 replay-steady-requires : tie.Need-replay-steady-requires
 replay-steady-requires c κs = search needs
 
+slice-aggregate-replay-measure : tie.Need-slice-aggregate-replay-measure
+slice-aggregate-replay-measure c = sym (length-take-le _ _ (omega arith))
+
+replay-measure-requires : tie.Need-replay-measure-requires
+replay-measure-requires c κs = search needs
+
 same-length : tie.Need-same-length
 same-length c = search needs
 
@@ -56,5 +62,7 @@ replay-in-spec =
     slice-relend-prefix-replay-steady
     slice-aggregate-replay-steady-3
     replay-steady-requires
+    slice-aggregate-replay-measure
+    replay-measure-requires
     same-length
     returns)

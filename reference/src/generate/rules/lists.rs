@@ -2,20 +2,8 @@
 
 use super::*;
 
-fn call<const N: usize>(parts: [Tree; N]) -> Tree {
-    node(kind::CALL, parts)
-}
-
-fn new<const N: usize>(parts: [Tree; N]) -> Tree {
-    node(kind::NEW, parts)
-}
-
 fn private() -> Tree {
     node(kind::PRIVATE_MEMBER, [a()])
-}
-
-fn keyed() -> Tree {
-    node(kind::COMPUTED_MEMBER, [a(), a()])
 }
 
 /// Members and chains don't go below a call whose callee is a plain name.
@@ -24,19 +12,19 @@ pub fn calls() -> Vec<Rule> {
     vec![
         rule(0, "let v=a.x; v(1)", member(a()), call([v(), one()])),
         rule(0, "let v=a.#x; v(1)", private(), call([v(), one()])),
-        rule(0, "let v=a[a]; v(1)", keyed(), call([v(), one()])),
+        rule(0, "let v=a[a]; v(1)", keyed(a(), a()), call([v(), one()])),
         rule(0, "let v=a?.(); v(1)", chained(), call([v(), one()])),
         rule(1, "let v=f(); v(1)", f(), call([v(), one()])),
         rule(0, "let v=a.x; a(v)", member(a()), call([a(), v()])),
         rule(0, "let v=a.#x; a(v)", private(), call([a(), v()])),
-        rule(0, "let v=a[a]; a(v)", keyed(), call([a(), v()])),
+        rule(0, "let v=a[a]; a(v)", keyed(a(), a()), call([a(), v()])),
         rule(0, "let v=a?.(); a(v)", chained(), call([a(), v()])),
         rule(1, "let v=b; a(v)", b(), call([a(), v()])),
         rule(1, "let v=a.x; a.x(v)", member(a()), call([member(a()), v()])),
         rule(1, "let v=a.x; [a(a),v]", member(a()), array([call([a(), a()]), v()])),
         rule(0, "let v=a.x; [f(),v]", member(a()), array([f(), v()])),
         rule(0, "let v=a.x; new v", member(a()), new([v()])),
-        rule(0, "let v=a[a]; new v", keyed(), new([v()])),
+        rule(0, "let v=a[a]; new v", keyed(a(), a()), new([v()])),
         rule(0, "let v=a?.(); new v", chained(), new([v()])),
         rule(1, "let v=f(); new v", f(), new([v()])),
         rule(0, "let v=a.x; new a(v)", member(a()), new([a(), v()])),
@@ -59,14 +47,6 @@ pub fn arrays() -> Vec<Rule> {
         rule(1, "let v=b; [[a],v]", b(), array([array([a()]), v()])),
         rule(0, "let v=f(); [[a],v]", f(), array([array([a()]), v()])),
     ]
-}
-
-fn property<const N: usize>(flags: u8, children: [Tree; N]) -> Tree {
-    node(kind::PROPERTY, children).flagged(flags)
-}
-
-fn object<const N: usize>(items: [Tree; N]) -> Tree {
-    node(kind::OBJECT, items)
 }
 
 /// A computed key and a spread stop even a literal; a shorthand that gives an answer is one no
@@ -108,10 +88,10 @@ pub fn tags() -> Vec<Rule> {
     vec![
         rule(1, "let v=a.x; v``", member(a()), tagged(v())),
         rule(1, "let v=a.#x; v``", private(), tagged(v())),
-        rule(1, "let v=a[a]; v``", keyed(), tagged(v())),
+        rule(1, "let v=a[a]; v``", keyed(a(), a()), tagged(v())),
         rule(1, "let v=a?.x; v``", chained(member(a())), tagged(v())),
         rule(1, "let v=a?.#x; v``", chained(private()), tagged(v())),
-        rule(1, "let v=a?.[a]; v``", chained(keyed()), tagged(v())),
+        rule(1, "let v=a?.[a]; v``", chained(keyed(a(), a())), tagged(v())),
         rule(1, "let v=a?.(); v``", chained(call([a()])), tagged(v())),
         rule(1, "let v=f(); v``", f(), tagged(v())),
         rule(1, "let v=a.x; v.x``, the member labelled as v", member(a()), tagged(member(v()))),

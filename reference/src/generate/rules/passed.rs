@@ -2,10 +2,6 @@
 
 use super::*;
 
-fn then_v(tree: Tree) -> Tree {
-    array([tree, v()])
-}
-
 pub fn leaves() -> Vec<Rule> {
     let class = || Tree::leaf(kind::CLASS);
     let this = || Tree::leaf(kind::THIS);

@@ -31,7 +31,6 @@ pub fn rules() -> Vec<Rule> {
 pub fn branches() -> Vec<Rule> {
     let and = |left: Tree, right: Tree| node(kind::LOGICAL, [left, right]);
     let choice = |one: Tree, other: Tree| node(kind::CONDITIONAL, [a(), one, other]);
-    let then_v = |tree: Tree| array([tree, v()]);
     let spreads = || array([spread(a())]);
     vec![
         rule(1, "let v=f(); v&&a", f(), and(v(), a())),
@@ -58,7 +57,6 @@ pub fn branches() -> Vec<Rule> {
 }
 
 pub fn chains() -> Vec<Rule> {
-    let keyed = |object: Tree, key: Tree| node(kind::COMPUTED_MEMBER, [object, key]);
     let call = |callee: Tree, argument: Tree| node(kind::CALL, [callee, argument]);
     let private = |object: Tree| node(kind::PRIVATE_MEMBER, [object]);
     vec![

@@ -2,28 +2,12 @@
 
 use super::*;
 
-fn assign(target: Tree, value: Tree) -> Tree {
-    node(kind::ASSIGNMENT, [target, value])
-}
-
-fn compound(target: Tree, value: Tree) -> Tree {
-    assign(target, value).flagged(flag::COMPOUND)
-}
-
-fn w() -> Tree {
-    Tree::leaf(kind::TARGET_NAME).labelled(4)
-}
-
 fn unresolved() -> Tree {
     Tree::leaf(kind::TARGET_NAME).labelled(3)
 }
 
 fn opaque() -> Tree {
     Tree::leaf(kind::OPAQUE_TARGET)
-}
-
-fn then_v(tree: Tree) -> Tree {
-    array([tree, v()])
 }
 
 /// Targets without children.
@@ -50,7 +34,6 @@ pub fn values() -> Vec<Rule> {
 /// Members as targets.
 pub fn members() -> Vec<Rule> {
     let private = |object: Tree| node(kind::PRIVATE_MEMBER, [object]);
-    let keyed = |object: Tree, key: Tree| node(kind::COMPUTED_MEMBER, [object, key]);
     let this = || Tree::leaf(kind::THIS);
     vec![
         rule(1, "let v=f(); a.x=v", f(), assign(member(a()), v())),

@@ -1,0 +1,3 @@
+-- Laws of measuring.
+pub mod Laws
+pub mod Returning
