@@ -157,8 +157,10 @@ fn times(run: &mut dyn FnMut()) -> u32 {
     }
 }
 
-/// The seconds of one run.
+/// The seconds of one run. As many runs that aren't timed go before, so that it makes no difference
+/// what was sampled last: branches that have just run are predicted better.
 fn sample(run: &mut dyn FnMut(), times: u32) -> f64 {
+    (0..times).for_each(|_| run());
     let start = Instant::now();
     (0..times).for_each(|_| run());
     start.elapsed().as_secs_f64() / f64::from(times)
