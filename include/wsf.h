@@ -49,7 +49,7 @@ enum {
     WSF_TREES = 8,
     WSF_DECLARED_TWICE = 9,
     WSF_USES = 10,
-    WSF_ROOM = 11 /* the output is too short; the file itself is good. Never of wsf_measure */
+    WSF_ROOM = 11 /* the output is too short; the file itself is good. wsf_measure never returns it */
 };
 
 typedef struct {
@@ -68,7 +68,7 @@ typedef struct {
 } WsfSteady;
 
 typedef struct {
-    uint64_t number; /* WSF_FOLDED, or the row that refuses the file, WSF_ROOM excepted */
+    uint64_t number; /* WSF_FOLDED, or the row that refuses the file; never WSF_ROOM */
     uint64_t length; /* bytes of the result that wsf_fold gives; 0 if refused */
     uint64_t looks;  /* how often the searches of that fold enter an expression
                         (docs/EMBEDDING.md): at most (T + 2 D) x 3,000, with T statements and D
@@ -86,7 +86,7 @@ typedef struct {
  * of 0), and that file and output don't overlap.
  *
  * Threads: no global or static state, no allocation, no system call; any number of threads may call
- * at the same time. Of the C library they ask for memcpy and memset.
+ * at the same time. Of the C library the calls use memcpy and memset.
  *
  * Stack: 2 MB below a call are enough. The size is measured, not proved (docs/EMBEDDING.md).
  */
@@ -103,8 +103,8 @@ WsfSteady wsf_fold_until_steady(const uint8_t *file, size_t file_length, uint8_t
                                 size_t output_length);
 
 /*
- * Works out what wsf_fold gives, without an output: the length of the result, and the looks. It
- * refuses what wsf_fold refuses for another reason than the room.
+ * Works out, without an output, the length of the result that wsf_fold gives, and its looks. It
+ * refuses what wsf_fold refuses, with the same number, but never with WSF_ROOM.
  */
 WsfMeasure wsf_measure(const uint8_t *file, size_t file_length);
 

@@ -73,9 +73,9 @@ pub fn fold_until_steady(file: &[u8], output: &mut [u8]) -> Result<Steady, Refus
     Ok(Steady { length, folds, runs })
 }
 
-/// Works out the length of the result that `fold` gives, and the fold's looks, without an output.
-/// It refuses what `fold` refuses, but never with
-/// `Refusal::Room`; what it accepts is folded in every output of `room_for` or more.
+/// Works out, without an output, the length of the result that `fold` gives, and the fold's looks.
+/// It refuses what `fold` refuses, but never with `Refusal::Room`; what it accepts is folded in
+/// every output of `room_for` bytes or more.
 pub fn measure(file: &[u8]) -> Result<Measured, Refusal> {
     // SAFETY: it is a slice, so its pointer is good for its length. `wsf_measure` asks no more.
     let answer = unsafe { raw::wsf_measure(file.as_ptr(), file.len()) };

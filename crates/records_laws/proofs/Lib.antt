@@ -1,4 +1,4 @@
--- The round trip laws of the record file: `RoundTrip` has what the others lead to.
+-- The round trip laws of the record file (`RoundTrip` has what the others lead to), and the refusal table by the room (`Rooms`).
 pub mod Forests
 pub mod Preorder
 pub mod Numbers

@@ -1,5 +1,5 @@
-// The records of a file checked, and the file folded, over tables for its counts: the core of each call that folds. It has no
-// counterpart in the Rust, whose trees grow as they need.
+// The records of a file checked, and the file folded, over tables for its counts: the core of `fold`, of the repeat and of
+// measuring. It has no counterpart in the Rust, whose trees grow as they need.
 ghost use mathlib.Core.List.{_++_};
 ghost use mathlib.Core.Path.{_≡_};
 ghost use Prim.Native.Nat.{_≤_};

@@ -1,5 +1,5 @@
 -- The twelve scripts of document 01 and some answers of the Rust, by computation; laws of the numbers of nodes, declarators
--- and statements.
+-- and statements, of searches and looks.
 pub mod Computed
 pub mod Scripts
 pub mod Answers

@@ -1,4 +1,5 @@
--- The laws of a result, of any accepted bytes: each is one theorem. Assumes nothing; demand 3 itself is in Demand3.antt.
+-- The laws of a result, and the bound of the looks, of any accepted bytes: each is one theorem. Assumes nothing; demand 3 itself is in
+-- Demand3.antt.
 use Prim.Native.Nat.{ℕ, _+_, _*_, _≤_}
 use native.Mathlib.Nat.{mul-le-mul-left}
 use native.Mathlib.Omega.{arith}

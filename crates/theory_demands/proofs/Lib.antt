@@ -1,5 +1,5 @@
 -- Demand 3: what the rows of the refusal table give the fold of an accepted file, and the theorem over bytes. Demand 1: the
--- result of an accepted file is accepted with the same room.
+-- result of an accepted file is accepted with the same room. The bound of a fold's looks.
 pub mod Rows
 pub mod Demand3
 pub mod Growth
