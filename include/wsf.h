@@ -49,7 +49,7 @@ enum {
     WSF_TREES = 8,
     WSF_DECLARED_TWICE = 9,
     WSF_USES = 10,
-    WSF_ROOM = 11 /* the output is too short; the file itself is good. wsf_measure never returns it */
+    WSF_ROOM = 11 /* the output is too short, and the file is good. Not returned by wsf_measure */
 };
 
 typedef struct {

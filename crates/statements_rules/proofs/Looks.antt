@@ -38,7 +38,7 @@ unfolding sum
 sum-append [] ns = omega arith
 sum-append (m ∷ ms) ns = omega (arith, sum-append ms ns)
 
--- There are at most so many searches as trees and folds; each searched tree has at most `most` nodes; the looks are at most the sum
+-- There are at most as many searches as trees and folds; each searched tree has at most `most` nodes; the looks are at most the sum
 -- of these nodes.
 pub record Sought (trees most : ℕ) {A : Type 0} (w : Traced A) : Type 0 where
   pub searches : length (w .searchedNodes) ≤ trees + length (w .trace)
