@@ -1,8 +1,7 @@
 /*
  * Folds names that are used once in a record file: `const n = 4096; load(n * 8)` becomes
- * `load(4096 * 8)`. Assignments right behind a declaration become its initializers: `var a;
- * a = sweep();` becomes `var a = sweep();`. The library is target/staticlib/libwsf.a, which
- * `rt staticlib wsf` writes. docs/EMBEDDING.md has the file's layout and says what is proved.
+ * `load(4096 * 8)`. The library is target/staticlib/libwsf.a, which `rt staticlib wsf` writes.
+ * docs/EMBEDDING.md has the file's layout and says what is proved.
  *
  *     uint8_t output[WSF_MOST_ROOM];
  *     WsfAnswer answer = wsf_fold(file, file_length, output, sizeof output);
@@ -56,9 +55,8 @@ enum {
 typedef struct {
     uint64_t number; /* WSF_FOLDED, or the row that refuses the file */
     uint64_t length; /* bytes of the result at the start of the output; 0 if refused */
-    uint64_t folds;  /* declarators that are gone; 0 if refused. An assignment that is merged keeps
-                        its declarator and isn't counted. So a result may differ from its file with
-                        0 folds; also, a shorthand may be written out, an empty declaration go */
+    uint64_t folds;  /* declarators that are gone; 0 if refused. A result may differ from its file
+                        with 0 folds: a shorthand may be written out, an empty declaration go */
 } WsfAnswer;
 
 typedef struct {
@@ -93,23 +91,13 @@ typedef struct {
  * Stack: 2 MB below a call are enough. The size is measured, not proved (docs/EMBEDDING.md).
  */
 
-/*
- * Folds the file and writes the result to the start of the output. Folding the result may fold and
- * merge more.
- *
- * Merged are the leading assignments of a statement, and of the first initializer of a declaration,
- * into the declaration just before: `var a, b; a = read(1), b = read(2);` becomes `var a = read(1),
- * b = read(2);`, and `var a; var p = (a = 1, c);` becomes `var a = 1; var p = c;`. A statement of
- * which nothing is left is gone; the declarators are as many as before. A `let` takes only a literal
- * or a function, and only in its last declarator.
- */
+/* Folds the file and writes the result to the start of the output. Folding the result may fold more. */
 WsfAnswer wsf_fold(const uint8_t *file, size_t file_length, uint8_t *output, size_t output_length);
 
 /*
  * Folds the file, then each result, until a run changes nothing, and writes the last result to the
- * start of the output. Its runs fold names and merge nothing: `var a; a = sweep();` stays. It refuses
- * what wsf_fold refuses, and wants the same room. Folding the last result until steady changes
- * nothing; wsf_fold may still merge in it.
+ * start of the output. It refuses what wsf_fold refuses, and wants the same room. Folding the last
+ * result, once or until steady, changes nothing.
  */
 WsfSteady wsf_fold_until_steady(const uint8_t *file, size_t file_length, uint8_t *output,
                                 size_t output_length);

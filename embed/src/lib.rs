@@ -1,6 +1,5 @@
-//! Folds names that are used once in a record file, and merges assignments into the declaration
-//! before them. The work is done by `libwsf.a`, whose code is proved; `docs/EMBEDDING.md` has what a
-//! loader's author needs to know.
+//! Folds names that are used once in a record file. The work is done by `libwsf.a`, whose code is
+//! proved; `docs/EMBEDDING.md` has what a loader's author needs to know.
 //!
 //! No allocation, no global state: any number of threads may call at the same time.
 
@@ -26,8 +25,7 @@ const HEADER_BYTES: usize = 24;
 pub struct Folded {
     /// The result is so many bytes at the start of the output.
     pub length: usize,
-    /// So many declarators are gone. An assignment that is merged keeps its declarator and isn't
-    /// counted.
+    /// So many declarators are gone.
     pub folds: usize,
 }
 
@@ -54,11 +52,6 @@ pub struct Measured {
 
 /// Folds the file and writes the result to the start of the output. What stands behind the result
 /// stays as it was; so does the whole output if the file is refused.
-///
-/// Leading assignments of a statement, or of a declaration's first initializer, become initializers
-/// of the declaration just before: `var a; a = sweep();` becomes `var a = sweep();`. A statement of
-/// which nothing is left is gone. A `let` takes only a literal or a function, and only in its last
-/// declarator. Folding the result may fold and merge more.
 pub fn fold(file: &[u8], output: &mut [u8]) -> Result<Folded, Refusal> {
     // SAFETY: both are slices, so each pointer is good for its length, and the borrows keep them
     // apart. `wsf_fold` asks no more.
@@ -69,9 +62,8 @@ pub fn fold(file: &[u8], output: &mut [u8]) -> Result<Folded, Refusal> {
 }
 
 /// Folds the file, then each result, until a run changes nothing, and writes the last result to the
-/// start of the output. Its runs fold names and merge nothing: `var a; a = sweep();` stays. It
-/// refuses what `fold` refuses and wants the same room. What stands behind the last result stays as
-/// it was; so does the whole output if the file is refused.
+/// start of the output. It refuses what `fold` refuses and wants the same room. What stands behind
+/// the last result stays as it was; so does the whole output if the file is refused.
 pub fn fold_until_steady(file: &[u8], output: &mut [u8]) -> Result<Steady, Refusal> {
     let (to, room) = (output.as_mut_ptr(), output.len());
     // SAFETY: as in `fold`.

@@ -8,7 +8,7 @@ pub struct WsfAnswer {
     pub number: u64,
     /// How many bytes of the output are the result; 0 for a refusal.
     pub length: u64,
-    /// How many declarators were folded, merges not counted; 0 for a refusal.
+    /// How many declarators were folded; 0 for a refusal.
     pub folds: u64,
 }
 
@@ -39,7 +39,7 @@ pub struct WsfMeasure {
 }
 
 unsafe extern "C" {
-    /// Folds a file, and merges assignments into the declaration before them.
+    /// Folds a file.
     ///
     /// # Safety
     ///
@@ -52,7 +52,7 @@ unsafe extern "C" {
         output_length: usize,
     ) -> WsfAnswer;
 
-    /// Folds a file until a run changes nothing. Nothing is merged.
+    /// Folds a file until a run changes nothing.
     ///
     /// # Safety
     ///

@@ -10,7 +10,6 @@ use crate::generate::exhaustive::{passed_files, small_files};
 use crate::generate::facts::facts;
 use crate::generate::limits::limits;
 use crate::generate::looks::{Looked, looked};
-use crate::generate::merges::{Merge, merges};
 use crate::generate::nests::plain_nests;
 use crate::generate::random_file::random_file;
 use crate::generate::refusals::refusals;
@@ -70,7 +69,6 @@ fn answer_cases() -> Vec<Case> {
     cases.extend(passed_cases());
     cases.extend(random_cases());
     cases.extend(damaged_cases());
-    cases.extend(merges().iter().map(Merge::case).filter(|case| !case.bulk));
     cases
 }
 

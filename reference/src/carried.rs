@@ -12,7 +12,7 @@
 //!
 //! What the functions need of other crates is in `arena.rs`, `ast.rs`, `context.rs` and
 //! `effects.rs`.
-#![allow(dead_code)] // the functions for joining sequences are switched off
+#![allow(dead_code)] // the functions for merging assignments and joining sequences are switched off
 
 use crate::arena::{ArenaVec, TakeIn};
 use crate::ast::*;
@@ -21,7 +21,7 @@ use crate::effects::{IsLiteralValue, MayHaveSideEffects};
 
 mod driver;
 
-pub use driver::{Merging, fold_statements};
+pub use driver::fold_statements;
 
 // origin: src/peephole/mod.rs 34-36
 /// Stateless peephole optimizer. Configuration and the per-pass
@@ -1000,7 +1000,7 @@ impl ReferenceCounts {
     // end of origin
 }
 
-/// Merging assignments, and joining sequences, which the driver doesn't call yet.
+/// Merging assignments and joining sequences. The driver doesn't call these yet.
 impl<'a> PeepholeOptimizations {
     // origin: src/peephole/minimize_statements.rs 194-210
     /// Fold `target` expression into previous expression as sequence

@@ -1,16 +1,12 @@
 //! What must hold of every fold, whatever the file.
 
-mod merges;
-
 use crate::build::room_for;
 use crate::convert::{read_statements, write_statements};
-use crate::fold::{Answer, base_fold, fold};
+use crate::fold::{Answer, fold};
 use crate::measure::{Measured, measure};
-use crate::merges::Names;
-use crate::record::{NODE_BYTES, RecordFile, read_header, read_parts};
+use crate::record::{NODE_BYTES, RecordFile, read_header};
 use crate::refusal::{MOST_NODES, ROOM_ROW, read_checked};
-use crate::steady::{Steady, runs};
-use merges::check_names;
+use crate::steady::{Steady, fold_until_steady};
 
 /// How many rows the table has.
 const ROWS: usize = ROOM_ROW as usize;
@@ -23,12 +19,7 @@ pub struct Totals {
     pub folds: u64,
     /// Files with at least one fold.
     pub folding: u64,
-    pub merges: u64,
-    /// Files with at least one merge.
-    pub merging: u64,
-    /// Of these, files with other folds than the base fold has.
-    pub refolding: u64,
-    /// Files that came out changed without a fold and without a merge.
+    /// Files that came out changed without a fold.
     pub changed: u64,
     pub most_runs: usize,
     /// Files that were measured, also where the room was short.
@@ -43,9 +34,6 @@ impl Totals {
         self.files += other.files;
         self.folds += other.folds;
         self.folding += other.folding;
-        self.merges += other.merges;
-        self.merging += other.merging;
-        self.refolding += other.refolding;
         self.changed += other.changed;
         self.measured += other.measured;
         self.at_run_limit += other.at_run_limit;
@@ -66,16 +54,12 @@ impl Totals {
             .map(|row| format!("{row}: {}", self.refused[row]))
             .collect();
         format!(
-            "files {}, accepted {}, folding {}, folds {}, merging {}, merges {}, with other folds \
-             than the base fold {}, changed without either {}, most runs {}, files that took D + 2 \
-             runs {}, measured {}, most looks {}, refused [{}]",
+            "files {}, accepted {}, folding {}, folds {}, changed without fold {}, most runs {}, \
+             files that took D + 2 runs {}, measured {}, most looks {}, refused [{}]",
             self.files,
             self.accepted(),
             self.folding,
             self.folds,
-            self.merging,
-            self.merges,
-            self.refolding,
             self.changed,
             self.most_runs,
             self.at_run_limit,
@@ -129,27 +113,30 @@ fn check_fold(
     totals: &mut Totals,
 ) -> Result<(), String> {
     check_round_trip(records, file)?;
+    check_folds(records, answer)?;
     check_result(records, file, &answer.result)?;
-    let runs: Vec<Answer> = runs(file, room).collect();
-    let base = &runs[0];
-    let merges = check_names(records, room, answer, base)?;
+    let steady = fold_until_steady(file, room);
+    check_repeat(records, room, &steady)?;
+    check_result(records, file, &steady.result)?;
+    let runs = usize::try_from(steady.runs).expect("small");
     totals.folds += u64::from(answer.folds);
     totals.folding += u64::from(answer.folds > 0);
-    totals.merges += merges;
-    totals.merging += u64::from(merges > 0);
-    totals.refolding += u64::from(answer.folds != base.folds);
-    totals.changed += u64::from(answer.folds == 0 && merges == 0 && answer.result != file);
-    totals.most_runs = totals.most_runs.max(runs.len());
-    totals.at_run_limit += u64::from(runs.len() == records.declarators.len() + 2);
-    let steady = Steady::of_runs(runs);
-    check_repeat(records, room, &steady)?;
-    check_result(records, file, &steady.result)
+    totals.changed += u64::from(answer.folds == 0 && answer.result != file);
+    totals.most_runs = totals.most_runs.max(runs);
+    totals.at_run_limit += u64::from(runs == records.declarators.len() + 2);
+    Ok(())
 }
 
 /// Reading into trees and writing back changes nothing.
 fn check_round_trip(records: &RecordFile, file: &[u8]) -> Result<(), String> {
     let again = write_statements(records, &read_statements(records));
     demand(again.to_bytes() == file, || "reading and writing back changes the file".into())
+}
+
+fn check_folds(records: &RecordFile, answer: &Answer) -> Result<(), String> {
+    let declarators = records.declarators.len();
+    let folds = usize::try_from(answer.folds).expect("small");
+    demand(folds <= declarators, || format!("{folds} folds of {declarators} declarators"))
 }
 
 /// Measuring gives what the fold gives in enough room, also where the answer's room was short, and
@@ -190,7 +177,7 @@ fn check_result(records: &RecordFile, file: &[u8], result: &[u8]) -> Result<(), 
 }
 
 /// Every run was accepted, there were at most D + 2, their folds are the declarators that are gone,
-/// nothing was merged, and the base fold of the last result gives it back.
+/// and folding the last result gives it back.
 fn check_repeat(records: &RecordFile, room: usize, steady: &Steady) -> Result<(), String> {
     let Steady { number, folds, runs, ref result } = *steady;
     demand(number == 0, || format!("a result is refused with {number}"))?;
@@ -199,9 +186,7 @@ fn check_repeat(records: &RecordFile, room: usize, steady: &Steady) -> Result<()
     let left = u32::from(read_header(result).declarators);
     let sum = || format!("all runs: {folds} folds, {left} of {declarators} declarators are left");
     demand(folds + left == declarators, sum)?;
-    let merged = Names::of(records, &read_parts(&read_header(result), result)).merged;
-    demand(merged.is_empty(), || format!("the repeat merges names {merged:?}"))?;
-    let again = base_fold(result, room);
+    let again = fold(result, room);
     let stays = again.number == 0 && again.folds == 0 && again.result == *result;
     demand(stays, || "the last result doesn't stay".into())
 }

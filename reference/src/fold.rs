@@ -1,7 +1,6 @@
-//! The whole fold on bytes: read and judge, fold by the carried functions, write. There are two: the
-//! fold, and the base fold, which merges no assignments and which the repeat makes.
+//! The whole fold on bytes: read and judge, fold by the carried functions, write.
 
-use crate::carried::{Merging, fold_statements};
+use crate::carried::fold_statements;
 use crate::convert::{context_of, read_statements, write_statements};
 use crate::record::RecordFile;
 use crate::refusal::read_checked;
@@ -12,7 +11,6 @@ pub struct Answer {
     /// The number of the refusal; 0 when the file was folded.
     pub number: u32,
     pub result: Vec<u8>,
-    /// Declarators that are gone. A merge keeps its declarator and isn't counted.
     pub folds: u32,
     /// Calls of `substitute_single_use_symbol_in_expression`.
     pub looks: u64,
@@ -20,25 +18,16 @@ pub struct Answer {
 
 /// Folds the file, with room for so many bytes of output.
 pub fn fold(file: &[u8], room: usize) -> Answer {
-    fold_by(Merging::On, file, room)
-}
-
-/// The same without merges.
-pub fn base_fold(file: &[u8], room: usize) -> Answer {
-    fold_by(Merging::Off, file, room)
-}
-
-fn fold_by(merging: Merging, file: &[u8], room: usize) -> Answer {
     match read_checked(file, room) {
-        Ok(records) => fold_records(merging, &records),
+        Ok(records) => fold_records(&records),
         Err(number) => Answer { number, ..Answer::default() },
     }
 }
 
 /// Folds the records of an accepted file.
-fn fold_records(merging: Merging, records: &RecordFile) -> Answer {
+fn fold_records(records: &RecordFile) -> Answer {
     let mut context = context_of(records);
-    let statements = fold_statements(read_statements(records), merging, &mut context);
+    let statements = fold_statements(read_statements(records), &mut context);
     let folded = write_statements(records, &statements);
     let folds = records.declarators.len() - folded.declarators.len();
     Answer {

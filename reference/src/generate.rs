@@ -7,7 +7,6 @@ pub mod exhaustive;
 pub mod facts;
 pub mod limits;
 pub mod looks;
-pub mod merges;
 pub mod nests;
 pub mod random_file;
 pub mod refusals;
@@ -23,7 +22,6 @@ pub fn worked_out() -> impl Iterator<Item = Case> {
     let rules = rules::rules().into_iter().map(|it| it.case());
     let shapes = shapes::shapes().into_iter().map(|it| it.case());
     let looks = looks::looked().into_iter().map(|it| it.case());
-    let merges = merges::merges().into_iter().map(|it| it.case());
     let numbers = refusals::refusals().into_iter().chain(limits::limits());
-    numbers.chain(rules).chain(shapes).chain(runs::run_cases()).chain(looks).chain(merges)
+    numbers.chain(rules).chain(shapes).chain(runs::run_cases()).chain(looks)
 }

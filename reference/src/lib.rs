@@ -17,7 +17,6 @@ pub mod fold;
 pub mod foldlist;
 pub mod generate;
 pub mod measure;
-pub mod merges;
 pub mod origin;
 pub mod random;
 pub mod record;

@@ -1,6 +1,6 @@
-//! The base fold repeated until the bytes stay the same.
+//! The fold repeated until the bytes stay the same.
 
-use crate::fold::{Answer, base_fold};
+use crate::fold::{Answer, fold};
 
 /// What the repeat returns. A refusal has an empty result, no folds and no runs.
 #[derive(Clone, PartialEq, Eq, Debug, Default)]
@@ -15,7 +15,7 @@ pub struct Steady {
     pub runs: u32,
 }
 
-/// Folds the file by the base fold, then each result, in the same room, until one stays as it is.
+/// Folds the file, then each result, in the same room, until one stays as it is.
 pub fn fold_until_steady(file: &[u8], room: usize) -> Steady {
     Steady::of_runs(runs(file, room))
 }
@@ -36,17 +36,8 @@ impl Steady {
     }
 }
 
-/// The answers of the runs.
+/// The answers of the runs. The last one is a refusal, or gives the bytes that it was given.
 pub fn runs(file: &[u8], room: usize) -> impl Iterator<Item = Answer> {
-    repeated(base_fold, file, room)
-}
-
-/// A fold on a file in a room.
-pub type Fold = fn(&[u8], usize) -> Answer;
-
-/// The answers of a fold on the file, then on each result. The last one is a refusal, or gives the
-/// bytes that it was given.
-pub fn repeated(fold: Fold, file: &[u8], room: usize) -> impl Iterator<Item = Answer> {
     let mut next = Some(file.to_vec());
     std::iter::from_fn(move || {
         let given = next.take()?;

@@ -3,8 +3,8 @@ use Rattle.std.specs.Prelude.{ℕ, zero, suc, ◌+◌, Bool, true, ◌&&◌, Lis
 
 -- n records of len bytes each, the first of which begins at `at`
 unfoldable pub records_from : {A : Type 0} → (ℕ → A) → ℕ → ℕ → ℕ → List A
-records_from read_at len zero at = []
-records_from read_at len (suc n) at = read_at at ∷ records_from read_at len n (at + len)
+records_from readAt len zero at = []
+records_from readAt len (suc n) at = readAt at ∷ records_from readAt len n (at + len)
 
 -- the bytes of records, one after the other
 unfoldable pub bytes_of : {A : Type 0} → (A → List ℕ) → List A → List ℕ

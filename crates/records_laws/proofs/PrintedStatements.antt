@@ -33,8 +33,8 @@ declarator_records-append [] es = refl
 declarator_records-append (d ∷ ds) es = rw (declarator_records-append ds es)
 
 -- from the front, so many are those of the first
-pub declarators-front : (ds es : List Declarator) → take (length ds) (declarator_records (ds ++ es)) ≡ declarator_records ds
-declarators-front ds es = rw (declarator_records-append ds es) (take_at (declarator_records ds) (declarator_records es) (length ds) (declarator_records-length ds))
+pub declarators_front : (ds es : List Declarator) → take (length ds) (declarator_records (ds ++ es)) ≡ declarator_records ds
+declarators_front ds es = rw (declarator_records-append ds es) (take_at (declarator_records ds) (declarator_records es) (length ds) (declarator_records-length ds))
 
 -- and behind those are those of the others
 pub declarators-behind : (ds es : List Declarator) → drop (length ds) (declarator_records (ds ++ es)) ≡ declarator_records es
@@ -109,14 +109,14 @@ module _ (es : List Declarator) (forest : Trees) where
   statement-read (declaration k ds) =
       let trees = initializer_trees ds forest in
       declaration-read k 0 (length ds) (declarator_records (ds ++ es)) trees
-      ∙ ap (declaration k) (ap (λ (rs : List DeclaratorRecord). read_declarators rs trees) (declarators-front ds es) ∙ declarators-read ds forest)
+      ∙ ap (declaration k) (ap (λ (rs : List DeclaratorRecord). read_declarators rs trees) (declarators_front ds es) ∙ declarators-read ds forest)
   statement-read (expression t) = refl
   statement-read other = refl
 
   statement-passed : (s : Statement) → others (trees_of (statement_record s) (declarator_records (declarators_in s ++ es))) (statement_trees s forest) ≡ forest
   unfolding statement_record statement_number declarators_in statement_trees trees_of initializers others
   statement-passed (declaration k ds) =
-      ap (λ (n : ℕ). others n (initializer_trees ds forest)) (declaration-trees k 0 (length ds) (declarator_records (ds ++ es)) ∙ ap initializers (declarators-front ds es))
+      ap (λ (n : ℕ). others n (initializer_trees ds forest)) (declaration-trees k 0 (length ds) (declarator_records (ds ++ es)) ∙ ap initializers (declarators_front ds es))
       ∙ declarators-passed ds forest
   statement-passed (expression t) = refl
   statement-passed other = refl

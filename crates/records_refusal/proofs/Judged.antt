@@ -24,7 +24,7 @@ use Rattle.records.proofs.Tests.{one-most, all_three}
 use Rattle.records_refusal.specs.Scanning.{good_trees, Taken}
 use Rattle.records_rows.specs.Stack.{entries, entry_at, root_stands}
 use Rattle.records_rows.specs.Tally.{Tally}
-use Rattle.records_rows.proofs.Forests.{entries-length, roots-entries}
+use Rattle.records_rows.proofs.Forests.{entries-length, roots_entries}
 use Rattle.records_rows.proofs.Stacks.{entries_part}
 
 -- no more trees than records
@@ -39,11 +39,11 @@ expressions-most [] = omega arith
 expressions-most (s ∷ ss) = omega (arith, one-most (eqb s.kind 5), expressions-most ss)
 
 module _ (len n at r : ℕ) where
-  pub initializers-low : (read_at : ℕ → DeclaratorRecord) → r ≡ initializers (records_from read_at len n at) → r ≤ n
-  initializers-low read_at e = omega (arith, e, initializers-most (records_from read_at len n at), records-length read_at len n at)
+  pub initializers-low : (readAt : ℕ → DeclaratorRecord) → r ≡ initializers (records_from readAt len n at) → r ≤ n
+  initializers-low readAt e = omega (arith, e, initializers-most (records_from readAt len n at), records-length readAt len n at)
 
-  pub expressions-low : (read_at : ℕ → StatementRecord) → r ≡ expressions (records_from read_at len n at) → r ≤ n
-  expressions-low read_at e = omega (arith, e, expressions-most (records_from read_at len n at), records-length read_at len n at)
+  pub expressions-low : (readAt : ℕ → StatementRecord) → r ≡ expressions (records_from readAt len n at) → r ≤ n
+  expressions-low readAt e = omega (arith, e, expressions-most (records_from readAt len n at), records-length readAt len n at)
 
 -- a stack whose entries from the top on are those of a forest
 module _ (stack : List ℕ) (top : ℕ) (forest : Trees) (same : drop top stack ≡ entries forest) where
@@ -53,7 +53,7 @@ module _ (stack : List ℕ) (top : ℕ) (forest : Trees) (same : drop top stack 
   pub forest_roots : top ≤ length stack → every_from (λ k. root_stands) 0 (records_from (entry_at stack) 1 (length stack - top) top) ≡ roots_stand forest
   forest_roots h =
       rw (entries_part stack (length stack - top) top (omega arith), take_all (length stack - top) (drop top stack) (omega (arith, length-drop top stack)), same)
-      (sym (roots-entries 0 forest))
+      (sym (roots_entries 0 forest))
 
 and_turned : (c p a r : Bool) → (c && p && a && r) ≡ (c && a && r && p)
 and_turned true true true true = refl

@@ -98,8 +98,8 @@ module _ {bs : List ℕ} {names from n : ℕ} {reads₀ targets₀ stack reads t
     pub ends_bad : good_node (records_from (name_at bs) 12 names 24) x ≡ false → false ≡ good_first bs names from n
     ends_bad e = sym (nodes_split ∙ rw e (and-false (good_first bs names from j)))
 
-    pub ends-untaken : good_node (records_from (name_at bs) 12 names 24) x ≡ false → false ≡ (good_first bs names from n && good_trees (nodes_from bs from n))
-    ends-untaken e = ap (λ (b : Bool). b && good_trees (nodes_from bs from n)) (ends_bad e)
+    pub ends_untaken : good_node (records_from (name_at bs) 12 names 24) x ≡ false → false ≡ (good_first bs names from n && good_trees (nodes_from bs from n))
+    ends_untaken e = ap (λ (b : Bool). b && good_trees (nodes_from bs from n)) (ends_bad e)
 
     -- one that is good
     module _ (good : good_node (records_from (name_at bs) 12 names 24) x ≡ true) where

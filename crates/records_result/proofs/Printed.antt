@@ -20,7 +20,7 @@ use Rattle.records_laws.proofs.Preorder.{preorders-length}
 use Rattle.records_laws.proofs.ReadFile.{names_of_length, scopes_of-length, frames_of-length}
 use Rattle.records_laws.proofs.Series.{bytes_of_length, read_all, print-all}
 use Rattle.records.proofs.Putting.{put_next}
-use Rattle.records_table.proofs.Laid.{work-reads, laids-preorders}
+use Rattle.records_table.proofs.Laid.{work_reads, laids-preorders}
 use Rattle.records_result.specs.declared.header.Counts.{Counts}
 use Rattle.records_result.specs.Header.{result_header}
 use Rattle.records_result.specs.Result.{SameFacts, Stated, PutsResult}
@@ -63,7 +63,7 @@ module _ (f : File) {nodes declarators statements : List ℕ} {counts : Counts} 
   nodes-read : records_from (node_at nodes) 16 counts.nodes 0 ≡ preorders (all_trees f.statements) []
   nodes-read =
       let ts = all_trees f.statements in
-      read_all work-reads nodes 0 rest₁ (preorders ts []) counts.nodes (preorders-length ts [] ∙ add-zero (sizes ts) ∙ sym s.used) (s.trees ∙ laids-preorders ts rest₁)
+      read_all work_reads nodes 0 rest₁ (preorders ts []) counts.nodes (preorders-length ts [] ∙ add-zero (sizes ts) ∙ sym s.used) (s.trees ∙ laids-preorders ts rest₁)
 
   declarators-taken : take (4 * counts.declarators) declarators ≡ bytes_of declarator_bytes (declarator_records (all_declarators f.statements))
   declarators-taken =

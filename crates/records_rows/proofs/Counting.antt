@@ -34,8 +34,8 @@ unfolding record_read
 read_ahead x zero a b e s = rw e
 read_ahead x (suc c) a b e s = rw (s (omega arith))
 
-module _ {read_at : ℕ → NodeRecord} {len n from : ℕ} where
-  pub counting_none : {reads targets : List ℕ} → Counting read_at len n from reads targets reads targets n
+module _ {readAt : ℕ → NodeRecord} {len n from : ℕ} where
+  pub counting_none : {reads targets : List ℕ} → Counting readAt len n from reads targets reads targets n
   unfolding records_from forest_of uses_of
   counting_none {reads} {targets} = let none : n - n ≡ 0 = omega arith in
       record {
@@ -44,37 +44,37 @@ module _ {read_at : ℕ → NodeRecord} {len n from : ℕ} where
         target = rw none (λ k h. sym (zero-add (get_or targets k 0)));
       }
 
-  module _ {reads₀ targets₀ reads targets : List ℕ} {i : ℕ} (p : Counting read_at len n from reads₀ targets₀ reads targets i) where
-    head_behind : i < n → head_target (records_from read_at len (n - i) (from + len * i)) ≡ target_name (node_of (read_at (from + len * i)))
+  module _ {reads₀ targets₀ reads targets : List ℕ} {i : ℕ} (p : Counting readAt len n from reads₀ targets₀ reads targets i) where
+    head_behind : i < n → head_target (records_from readAt len (n - i) (from + len * i)) ≡ target_name (node_of (readAt (from + len * i)))
     unfolding head_target
-    head_behind h = rw (next_record read_at len n i (from + len * i) h)
+    head_behind h = rw (next_record readAt len n i (from + len * i) h)
 
-    pub counting_more : (reads' targets' : List ℕ) (x : NodeRecord) (j : ℕ) → i ≡ j + 1 → x ≡ read_at (from + len * j) → (0 < x.children → i < n)
+    pub counting_more : (reads' targets' : List ℕ) (x : NodeRecord) (j : ℕ) → i ≡ j + 1 → x ≡ readAt (from + len * j) → (0 < x.children → i < n)
         → length reads' ≡ length reads → length targets' ≡ length targets
-        → Tally (λ k. one (eqb (record_read x (target_name (node_of (read_at (from + len * i))))) k) + get_or reads k 0) reads'
-        → Tally (λ k. one (eqb (target_name (node_of x)) k) + get_or targets k 0) targets' → Counting read_at len n from reads₀ targets₀ reads' targets' j
+        → Tally (λ k. one (eqb (record_read x (target_name (node_of (readAt (from + len * i))))) k) + get_or reads k 0) reads'
+        → Tally (λ k. one (eqb (target_name (node_of x)) k) + get_or targets k 0) targets' → Counting readAt len n from reads₀ targets₀ reads' targets' j
     counting_more reads' targets' x j ei ex some lr lt tr tt' = record {
       within = omega (arith, p.within);
       read =
-          rw (one_more read_at len n from i j ei p.within, ← ex)
+          rw (one_more readAt len n from i j ei p.within, ← ex)
           (tally-more name_read x _ reads₀ reads reads' _ lr (read_ahead x x.children _ _ refl (λ s. sym (head_behind (some s))) ∙ sym (read_record x _)) p.read tr);
       target =
-          rw (one_more read_at len n from i j ei p.within, ← ex)
+          rw (one_more readAt len n from i j ei p.within, ← ex)
           (tally-more (λ m kids. target_name m) x _ targets₀ targets targets' _ lt refl p.target tt');
     }
 
     -- no count grows by more than the number of nodes
     pub reads-low : (k : ℕ) → get_or reads k 0 ≤ n - i + get_or reads₀ k 0
     reads-low k =
-        rw (← records-length read_at len (n - i) (from + len * i)) (tally-low name_read (records_from read_at len (n - i) (from + len * i)) reads₀ reads p.read k)
+        rw (← records-length readAt len (n - i) (from + len * i)) (tally-low name_read (records_from readAt len (n - i) (from + len * i)) reads₀ reads p.read k)
 
     pub targets-low : (k : ℕ) → get_or targets k 0 ≤ n - i + get_or targets₀ k 0
     targets-low k =
-        rw (← records-length read_at len (n - i) (from + len * i))
-        (tally-low (λ m kids. target_name m) (records_from read_at len (n - i) (from + len * i)) targets₀ targets p.target k)
+        rw (← records-length readAt len (n - i) (from + len * i))
+        (tally-low (λ m kids. target_name m) (records_from readAt len (n - i) (from + len * i)) targets₀ targets p.target k)
 
-    pub counted-reads : i ≤ 0 → Tally (λ k. reads_of k (forest_of (records_from read_at len n from)) + get_or reads₀ k 0) reads
-    counted-reads h = rw (← all_left read_at len n from i h) p.read
+    pub counted-reads : i ≤ 0 → Tally (λ k. reads_of k (forest_of (records_from readAt len n from)) + get_or reads₀ k 0) reads
+    counted-reads h = rw (← all_left readAt len n from i h) p.read
 
-    pub counted-targets : i ≤ 0 → Tally (λ k. targets_of k (forest_of (records_from read_at len n from)) + get_or targets₀ k 0) targets
-    counted-targets h = rw (← all_left read_at len n from i h) p.target
+    pub counted-targets : i ≤ 0 → Tally (λ k. targets_of k (forest_of (records_from readAt len n from)) + get_or targets₀ k 0) targets
+    counted-targets h = rw (← all_left readAt len n from i h) p.target

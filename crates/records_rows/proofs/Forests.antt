@@ -52,11 +52,11 @@ unfolding unchained_first entries first_unchained
 unchained-entries none = refl
 unchained-entries (more t ts) = sym (entry-unchained (root t).kind (unchained t))
 
-pub roots-entries : (i : ℕ) (ts : Trees) → roots_stand ts ≡ every_from (λ k. root_stands) i (entries ts)
+pub roots_entries : (i : ℕ) (ts : Trees) → roots_stand ts ≡ every_from (λ k. root_stands) i (entries ts)
 unfolding roots_stand entries every_from root_stands
-roots-entries i none = refl
-roots-entries i (more t ts) =
-    rw (entry-kind (root t).kind (unchained t), entry-unchained (root t).kind (unchained t), roots-entries (i + 1) ts)
+roots_entries i none = refl
+roots_entries i (more t ts) =
+    rw (entry-kind (root t).kind (unchained t), entry-unchained (root t).kind (unchained t), roots_entries (i + 1) ts)
 
 -- the entries of a forest that a node has grown over
 pub entries-grown : (r : NodeRecord) (forest : Trees) → entries (grown r forest) ≡ pushed r (entries forest)

@@ -24,8 +24,8 @@ pushed_stack n stack top t e h ee et =
     laid stack t e h
     ∙ rw (et, ee, ← drop-drop (min n.children (length stack - top)) top stack, found stack n.children top, drop-found n.children (drop top stack))
 
-module _ {read_at : ℕ → NodeRecord} {len n from : ℕ} where
-  pub growing_none : {stack : List ℕ} (m : ℕ) → m ≡ length stack → Growing read_at len n from stack m n
+module _ {readAt : ℕ → NodeRecord} {len n from : ℕ} where
+  pub growing_none : {stack : List ℕ} (m : ℕ) → m ≡ length stack → Growing readAt len n from stack m n
   unfolding records_from forest_of entries closed all_placed
   growing_none {stack} m e = let none : n - n ≡ 0 = omega arith in
       record {
@@ -37,26 +37,26 @@ module _ {read_at : ℕ → NodeRecord} {len n from : ℕ} where
       }
 
   pub growing_more : {stack : List ℕ} {top i : ℕ} (x : NodeRecord) (e t j : ℕ)
-      → Growing read_at len n from stack top i → i ≡ j + 1 → n ≤ length stack → x ≡ read_at (from + len * j)
+      → Growing readAt len n from stack top i → i ≡ j + 1 → n ≤ length stack → x ≡ readAt (from + len * j)
       → children_stand x (drop top stack) ≡ true → e ≡ node_entry x (drop top stack) → t + 1 ≡ top + min x.children (length stack - top)
-      → Growing read_at len n from (set stack t e) t j
+      → Growing readAt len n from (set stack t e) t j
   unfolding forest_of
   growing_more {stack} {top} {i} x e t j p ei long ex eg ee et = record {
     within = omega arith;
     inside = omega (arith, length-set stack t e);
     room = omega (arith, length-set stack t e);
     same =
-        rw (one_more read_at len n from i j ei p.within, ← ex)
+        rw (one_more readAt len n from i j ei p.within, ← ex)
         (pushed_stack x stack top t e (omega arith) ee et ∙ ap (pushed x) p.same ∙ sym (entries-grown x _));
     judged =
-        rw (one_more read_at len n from i j ei p.within, ← ex)
+        rw (one_more readAt len n from i j ei p.within, ← ex)
         (sym (grown_good x _) ∙ rw (← p.same, eg, p.judged));
   }
 
-  pub growing_all : {stack : List ℕ} {top i : ℕ} → Growing read_at len n from stack top i → i ≤ 0
-      → drop top stack ≡ entries (forest_of (records_from read_at len n from))
-  growing_all {i = i} p h = p.same ∙ ap (λ (rs : List NodeRecord). entries (forest_of rs)) (all_left read_at len n from i h)
+  pub growing_all : {stack : List ℕ} {top i : ℕ} → Growing readAt len n from stack top i → i ≤ 0
+      → drop top stack ≡ entries (forest_of (records_from readAt len n from))
+  growing_all {i = i} p h = p.same ∙ ap (λ (rs : List NodeRecord). entries (forest_of rs)) (all_left readAt len n from i h)
 
-  pub growing_good : {stack : List ℕ} {top i : ℕ} → Growing read_at len n from stack top i → i ≤ 0
-      → (closed (records_from read_at len n from) && all_placed (forest_of (records_from read_at len n from))) ≡ true
-  growing_good {i = i} p h = sym (ap (λ (rs : List NodeRecord). closed rs && all_placed (forest_of rs)) (all_left read_at len n from i h)) ∙ p.judged
+  pub growing_good : {stack : List ℕ} {top i : ℕ} → Growing readAt len n from stack top i → i ≤ 0
+      → (closed (records_from readAt len n from) && all_placed (forest_of (records_from readAt len n from))) ≡ true
+  growing_good {i = i} p h = sym (ap (λ (rs : List NodeRecord). closed rs && all_placed (forest_of rs)) (all_left readAt len n from i h)) ∙ p.judged

@@ -7,7 +7,7 @@ use Rattle.records.specs.declared.layout.NodeRecord.{NodeRecord}
 use Rattle.records_rows.specs.Tally.{Tally}
 
 -- i of n nodes are left; the arrays hold the uses of names in the trees of the others, and what they held before
-pub record Counting (read_at : ℕ → NodeRecord) (len n from : ℕ) (reads₀ targets₀ reads targets : List ℕ) (i : ℕ) : Type 0 where
+pub record Counting (readAt : ℕ → NodeRecord) (len n from : ℕ) (reads₀ targets₀ reads targets : List ℕ) (i : ℕ) : Type 0 where
   pub within : i ≤ n
-  pub read : Tally (λ k. reads_of k (forest_of (records_from read_at len (n - i) (from + len * i))) + get_or reads₀ k 0) reads
-  pub target : Tally (λ k. targets_of k (forest_of (records_from read_at len (n - i) (from + len * i))) + get_or targets₀ k 0) targets
+  pub read : Tally (λ k. reads_of k (forest_of (records_from readAt len (n - i) (from + len * i))) + get_or reads₀ k 0) reads
+  pub target : Tally (λ k. targets_of k (forest_of (records_from readAt len (n - i) (from + len * i))) + get_or targets₀ k 0) targets

@@ -7,9 +7,9 @@ use Rattle.records.specs.declared.layout.NodeRecord.{NodeRecord}
 use Rattle.records_rows.specs.Stack.{entries}
 
 -- i of n nodes are left; behind them stand the trees of the others
-pub record Growing (read_at : ℕ → NodeRecord) (len n from : ℕ) (stack : List ℕ) (top i : ℕ) : Type 0 where
+pub record Growing (readAt : ℕ → NodeRecord) (len n from : ℕ) (stack : List ℕ) (top i : ℕ) : Type 0 where
   pub within : i ≤ n
   pub inside : top ≤ length stack
   pub room : length stack + i ≤ top + n
-  pub same : drop top stack ≡ entries (forest_of (records_from read_at len (n - i) (from + len * i)))
-  pub judged : (closed (records_from read_at len (n - i) (from + len * i)) && all_placed (forest_of (records_from read_at len (n - i) (from + len * i)))) ≡ true
+  pub same : drop top stack ≡ entries (forest_of (records_from readAt len (n - i) (from + len * i)))
+  pub judged : (closed (records_from readAt len (n - i) (from + len * i)) && all_placed (forest_of (records_from readAt len (n - i) (from + len * i)))) ≡ true

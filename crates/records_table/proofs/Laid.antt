@@ -16,12 +16,12 @@ use Rattle.records_table.specs.Table.{unknown_end, work_bytes}
 use Rattle.records_table.specs.Laid.{laid, laids, At, TreeAt, Stands}
 
 -- a record of the table is read as one of a file is
-pub work-reads : Reads node_at work_bytes 16
+pub work_reads : Reads node_at work_bytes 16
 unfolding work_bytes
-work-reads = longer node-reads (λ r. u32_bytes unknown_end) 4 (λ r. refl)
+work_reads = longer node-reads (λ r. u32_bytes unknown_end) 4 (λ r. refl)
 
-pub work-length : (r : NodeRecord) → length (work_bytes r) ≡ 16
-work-length r = work-reads.measured r
+pub work_length : (r : NodeRecord) → length (work_bytes r) ≡ 16
+work_length r = work_reads.measured r
 
 pub size_least : (t : Tree) → 1 ≤ size t
 unfolding size
@@ -33,7 +33,7 @@ mutual
 
   pub laid-length : (t : Tree) (rest : List ℕ) → length (laid t rest) ≡ 16 * size t + length rest
   laid-length (node n kids) rest =
-      omega (arith, length-append (work_bytes (record_of n (count kids))) (laids kids rest), work-length (record_of n (count kids)), laids-length kids rest)
+      omega (arith, length-append (work_bytes (record_of n (count kids))) (laids kids rest), work_length (record_of n (count kids)), laids-length kids rest)
 
   pub laids-length : (ts : Trees) (rest : List ℕ) → length (laids ts rest) ≡ 16 * sizes ts + length rest
   laids-length none rest = omega arith
@@ -120,20 +120,20 @@ module _ {table : List ℕ} {at : ℕ} {n : Node} {kids : Trees} {pre rest : Lis
   unfolding laid laids
   inside h = record {
     is = h.is ∙ rw append_assoc;
-    starts = omega (arith, length-append pre (work_bytes (record_of n (count kids))), work-length (record_of n (count kids)), h.starts);
+    starts = omega (arith, length-append pre (work_bytes (record_of n (count kids))), work_length (record_of n (count kids)), h.starts);
   }
 
   pub outside : (many : ℕ) → count kids ≡ many → At table (at + 1) kids (pre ++ work_bytes (record_of n many)) rest → TreeAt table at (node n kids) pre rest
   unfolding laid laids
   outside many e h = record {
     is = h.is ∙ rw (append_assoc, e);
-    starts = omega (arith, length-append pre (work_bytes (record_of n many)), work-length (record_of n many), h.starts);
+    starts = omega (arith, length-append pre (work_bytes (record_of n many)), work_length (record_of n many), h.starts);
   }
 
   -- what is read there
   pub node_at_lem : TreeAt table at (node n kids) pre rest → node_at table (16 * at) ≡ record_of n (count kids)
   unfolding laid laids
-  node_at_lem h = rw (h.is, ← h.starts) (read_one_in work-reads pre (record_of n (count kids)) (laids kids rest))
+  node_at_lem h = rw (h.is, ← h.starts) (read_one_in work_reads pre (record_of n (count kids)) (laids kids rest))
 
 -- the children of the first node and the trees behind it are a forest
 pub down : {table : List ℕ} {at : ℕ} {n : Node} {kids ts : Trees} {pre rest : List ℕ} → At table at (more (node n kids) ts) pre rest

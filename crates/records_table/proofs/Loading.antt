@@ -13,7 +13,7 @@ use Rattle.records.specs.declared.layout.NodeRecord.{NodeRecord}
 use Rattle.records_laws.proofs.Forests.{count-joined, sizes-joined, count-sizes}
 use Rattle.records_table.specs.Table.{work_bytes}
 use Rattle.records_table.specs.Laid.{laid, laids}
-use Rattle.records_table.proofs.Laid.{work-length, laids-joined}
+use Rattle.records_table.proofs.Laid.{work_length, laids-joined}
 use Rattle.records_table.specs.Loads.{FileForest, FileTree, HasRoom}
 use Rattle.records_table.proofs.FileForest.{room, node_at_lem, down}
 
@@ -94,7 +94,7 @@ module _ {file table goal : List ℕ} {from last total : ℕ} {behind : List Nod
           is = put_last to table done rest new l.is long
               ∙ ap (λ (bs : List ℕ). done ++ bs) (copied ∙ rw (is, last_part to table done rest l.is long))
               ∙ sym (append_assoc done (work_bytes m) (drop 16 rest));
-          starts = omega (arith, length-append done (work_bytes m), work-length m, l.starts);
+          starts = omega (arith, length-append done (work_bytes m), work_length m, l.starts);
           ends = rw (append_assoc, laids-joined, drop-drop (16 * sizes (joined kids ts)) 16 rest, many) l.ends;
         },
       )

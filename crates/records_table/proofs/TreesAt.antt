@@ -15,7 +15,7 @@ use Rattle.records_laws.proofs.Preorder.{preorders-length, preorders-append, for
 use Rattle.records_laws.proofs.Series.{read_all, records_from_add}
 use Rattle.records_table.specs.Table.{work_bytes}
 use Rattle.records_table.specs.Laid.{laids, At, TreeAt, trees_at, tree_at, forest_at}
-use Rattle.records_table.proofs.Laid.{work-reads, laids-preorders, room}
+use Rattle.records_table.proofs.Laid.{work_reads, laids-preorders, room}
 
 module _ {table : List ℕ} {at : ℕ} {ts : Trees} {pre rest : List ℕ} (h : At table at ts pre rest) where
   from-there : drop (16 * at) table ≡ bytes_of work_bytes (preorders ts []) ++ rest
@@ -26,7 +26,7 @@ module _ {table : List ℕ} {at : ℕ} {ts : Trees} {pre rest : List ℕ} (h : A
   records-there k =
       let more : List NodeRecord = records_from (node_at table) 16 k (16 * at + 16 * sizes ts) in
       records_from_add (node_at table) 16 (sizes ts) k (16 * at)
-      ∙ ap (λ (l : List NodeRecord). l ++ more) (read_all work-reads table (16 * at) rest (preorders ts []) (sizes ts) (preorders-length ts [] ∙ omega arith) from-there)
+      ∙ ap (λ (l : List NodeRecord). l ++ more) (read_all work_reads table (16 * at) rest (preorders ts []) (sizes ts) (preorders-length ts [] ∙ omega arith) from-there)
       ∙ sym (preorders-append ts [] more)
 
   -- so the trees from there on begin with it

@@ -39,11 +39,11 @@ at_start = record {
 }
 
 -- all the records of a part
-row-all : {A : Type 0} (read_at : List ℕ → ℕ → A) (file : List ℕ) (from n : ℕ) (xs : List A) → xs ≡ records_from (read_at file) 4 n from → length xs ≡ n → from + 4 * n ≤ length file
-    → StandingRecords read_at file from 0 xs
-row-all read_at file from n xs e l inside =
+row-all : {A : Type 0} (readAt : List ℕ → ℕ → A) (file : List ℕ) (from n : ℕ) (xs : List A) → xs ≡ records_from (readAt file) 4 n from → length xs ≡ n → from + 4 * n ≤ length file
+    → StandingRecords readAt file from 0 xs
+row-all readAt file from n xs e l inside =
     let at : from + 4 * 0 ≡ from = omega arith in
-    record { is = ap₂ (λ (m k : ℕ). records_from (read_at file) 4 m k) l at ∙ sym e; inside = omega (arith, l, inside) }
+    record { is = ap₂ (λ (m k : ℕ). records_from (readAt file) 4 m k) l at ∙ sym e; inside = omega (arith, l, inside) }
 
 -- nothing is kept
 holds-none : (nodes records starts statements : List ℕ) → Holds (tables nodes records starts statements) at_start (holding 0 [] [] bare nodes)

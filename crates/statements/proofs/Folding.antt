@@ -1,11 +1,11 @@
 -- A statement of the file, folded and pushed. Assumes nothing.
-use mathlib.Core.Bool.{Bool, true, false, ◌||◌, not}
-use mathlib.Core.Path.{◌≡◌, refl, sym, ap, subst, ◌∙◌}
+use mathlib.Core.Bool.{Bool, ◌||◌, not}
+use mathlib.Core.Path.{◌≡◌, refl, ap, subst, ◌∙◌}
 use mathlib.Core.List.{List, [], ◌∷◌, ◌++◌, reverse}
 use Prim.Native.Nat.{ℕ, suc, ◌+◌, ◌-◌, ◌≤◌, ◌<◌}
 use native.Mathlib.Omega.{arith}
 use lib.ListN.{length, length-reverse}
-use Rattle.records.specs.Tree.{Tree, Trees, more}
+use Rattle.records.specs.Tree.{Tree, more}
 use Rattle.records.specs.File.{DeclarationKind, Initializer, bare, given, Declarator, Statement, declaration, expression, other, declaration_kind, kind_number, declarators_in, statement_number, statement_record, initializer_trees, statement_trees, all_trees, declarator_records, all_declarators}
 use Rattle.records.specs.declared.layout.Header.{Header}
 use Rattle.records.specs.declared.layout.NodeRecord.{NodeRecord}
@@ -13,23 +13,20 @@ use Rattle.records.specs.declared.layout.DeclaratorRecord.{DeclaratorRecord}
 use Rattle.records.specs.declared.layout.StatementRecord.{StatementRecord}
 use Rattle.records_laws.proofs.PrintedStatements.{declarator_records-append, kind-small, kind-back}
 use Rattle.walk_rules.specs.Context.{Context}
-use Rattle.records_table.proofs.Laid.{size_least}
-use Rattle.statements_rules.specs.Declarators.{is_unsearched, is_using, Searched}
-use Rattle.statements_rules.specs.Statements.{Kept, in_file_order, substitute_in_statement, leading, pushed, fold_statement}
+use Rattle.statements_rules.specs.Trace.{pure, ◌>>=◌}
+use Rattle.statements_rules.specs.Declarators.{is_unsearched, is_using}
+use Rattle.statements_rules.specs.Statements.{Kept, in_file_order, substitute_in_statement, in_initializer, in_first_declarator, fold_statement}
 use Rattle.statements_progress.specs.declared.progress.Progress.{Progress}
 use Rattle.statements_progress.specs.Pushed.{StatementPushed, statement_past}
 use Rattle.statements.specs.Added.{Adds}
-use Rattle.statements.specs.State.{Long, LongTables, State, Holding, holding, following, declarator_tables}
-use Rattle.statements.specs.Merged.{CanMergeSearched, MergesSearched}
+use Rattle.statements.specs.State.{State, holding, following, declarator_tables}
 use Rattle.statements.specs.Next.{CanTakeNext, SearchedFromStatements}
-use Rattle.statements.specs.Declarators.{CanTakeFirst, first_declarator, TakenFirst, later_declarators, CanTakeAll, TakenAll}
-use Rattle.statements.specs.Folds.{Taking, CanFold, Folds, is_left, is_kept, TellsKept}
+use Rattle.statements.specs.Declarators.{CanTakeFirst, TakenFirst, later_declarators, CanTakeAll, TakenAll}
+use Rattle.statements.specs.Folds.{Taking, CanFold, Folds}
 use Rattle.statements.proofs.Adding.{adds_none, adds_as, adds_then}
 use Rattle.statements.proofs.Pushes.{becomes-expression, becomes-other, becomes-declaration, statement-state}
-use Rattle.statements.proofs.Merging.{merged-state, merge-room}
-use Rattle.statements.proofs.Definitions.{first_alone, handle_variable_declaration, fold-empty, handle_expression_statement, fold-other}
-use Rattle.statements_search.specs.Kept.{node_count}
-use Rattle.statements_search.specs.KeptStatements.{Tables, tables}
+use Rattle.statements.proofs.Definitions.{handle_variable_declaration, fold-empty, handle_expression_statement, fold-other}
+use Rattle.statements_search.specs.KeptStatements.{tables}
 
 -- What a statement is, by its record.
 pub data Declared (s : StatementRecord) : Statement → Type 0 where
@@ -113,63 +110,43 @@ unfolding all_trees statement_trees all_declarators declarators_in
 other-state ss a = a
 
 -- one declarator comes of the first
-first-length : (merging : Bool) (ctx : Context) (ks : List Kept) (d : Declarator) → length (first_declarator merging ctx ks (d ∷ [])).result.target ≡ 1
-first-length merging ctx ks d = ap length (first_alone merging ctx ks d).1
+first-length : (ctx : Context) (ks : List Kept) (d : Declarator) → length (in_first_declarator ctx ks (d ∷ [])).result.target ≡ 1
+unfolding in_first_declarator in_initializer pure ◌>>=◌
+first-length ctx ks d = by d.initializer
+  where
+    by : (i : Initializer) → length (in_initializer ctx ks d [] i).result.target ≡ 1
+    by bare = refl
+    by (given t) = refl
 
--- an expression statement is kept by what is left of it
-kept_by : (merging : Bool) (ctx : Context) (ks : List Kept) (st : Statement) (t : Tree) (i : Initializer) → st ≡ expression t
-    → (leading merging true (substitute_in_statement ctx ks t).result.target (substitute_in_statement ctx ks t).result.left).result.target ≡ i → is_kept merging ctx ks st ≡ is_left i
-unfolding is_kept
-kept_by merging ctx ks st t i e f = ap (is_kept merging ctx ks) e ∙ ap is_left f
-
-none_left : is_left bare ≡ false
-unfolding is_left
-none_left = refl
-
-some_left : (t : Tree) → is_left (given t) ≡ true
-unfolding is_left
-some_left t = refl
-
--- a statement less is to come
-one_less : {file : List ℕ} {h : Header} {t : Tables} {p : Progress} {g : Holding} {ts : Trees} {ds : List DeclaratorRecord} {n : ℕ} {before : List NodeRecord} → State file h t p g (following ts ds (suc n) before) → State file h t p g (following ts ds n before)
-one_less a =
-    let c = a.comes in
-    let r = a.room in
-    record {
-      holds = a.holds;
-      comes = record { trees = c.trees; records = c.records; few = c.few; names = c.names };
-      room = record { weight = r.weight; declared = r.declared; stated = let z = r.stated in omega (arith, z); looked = r.looked; few = r.few };
-    }
-
-module _ (merging : Bool) (ctx : Context) (file : List ℕ) (h : Header) (nodes records starts statements : List ℕ) (s : StatementRecord) (p : Progress) where
+module _ (ctx : Context) (file : List ℕ) (h : Header) (nodes records starts statements : List ℕ) (s : StatementRecord) (p : Progress) where
   -- An empty declaration is pushed.
   pub empty-folds : (statements' folded : List ℕ) (r : Progress) → s.kind < 5 → s.declarators ≡ 0 → StatementPushed statements statements' p.statements_kept s → r ≡ statement_past p
-      → Folds merging ctx file h (tables nodes records starts statements) (tables nodes records starts statements') folded folded s p r
+      → Folds ctx file h (tables nodes records starts statements) (tables nodes records starts statements') folded folded s p r
   unfolding initializer_trees declarator_records
   empty-folds statements' folded r k n w er ks st ss rest before a e number = by st (is-empty s st e k n) a
     where
       by : (st : Statement) → Empty s st → Taking file h (tables nodes records starts statements) p ks (st ∷ ss) rest before
           → (rest' : List ℕ) × (before' : List NodeRecord)
-          × Taking file h (tables nodes records starts statements') r (fold_statement merging ctx number ks st).result ss rest' before'
-          × Adds folded folded p r (fold_statement merging ctx number ks st)
+          × Taking file h (tables nodes records starts statements') r (fold_statement ctx number ks st).result ss rest' before'
+          × Adds folded folded p r (fold_statement ctx number ks st)
       by _ (empty kind e) a =
-          let (x, y) = fold-empty merging ctx ks number kind in
+          let (x, y) = fold-empty ctx ks number kind in
           let b = statement-state number (declaration kind (reverse [])) (becomes-declaration kind []) (declaration-state kind [] ss a) w e in
-          (rest, before, rw (er, x) b, adds_none (fold_statement merging ctx number ks (declaration kind [])) (ap (λ (x : Progress). x.folds) er) (ap (λ (x : Progress). x.looks) er) y.traces y.looks)
+          (rest, before, rw (er, x) b, adds_none (fold_statement ctx number ks (declaration kind [])) (ap (λ (x : Progress). x.folds) er) (ap (λ (x : Progress). x.looks) er) y.traces y.looks)
 
   -- Any other statement is pushed.
   pub other-folds : (statements' folded : List ℕ) (r : Progress) → s.kind ≡ 6 → StatementPushed statements statements' p.statements_kept s → r ≡ statement_past p
-      → Folds merging ctx file h (tables nodes records starts statements) (tables nodes records starts statements') folded folded s p r
+      → Folds ctx file h (tables nodes records starts statements) (tables nodes records starts statements') folded folded s p r
   other-folds statements' folded r k w er ks st ss rest before a e number = by st (is_the_other s st e k) a e
     where
       by : (st : Statement) → Other st → Taking file h (tables nodes records starts statements) p ks (st ∷ ss) rest before → s ≡ statement_record st
           → (rest' : List ℕ) × (before' : List NodeRecord)
-          × Taking file h (tables nodes records starts statements') r (fold_statement merging ctx number ks st).result ss rest' before'
-          × Adds folded folded p r (fold_statement merging ctx number ks st)
+          × Taking file h (tables nodes records starts statements') r (fold_statement ctx number ks st).result ss rest' before'
+          × Adds folded folded p r (fold_statement ctx number ks st)
       by _ is-other a e =
-          let (x, y) = fold-other merging ctx ks number in
+          let (x, y) = fold-other ctx ks number in
           let b = statement-state number other becomes-other (other-state ss a) w e in
-          (rest, before, rw (er, x) b, adds_none (fold_statement merging ctx number ks other) (ap (λ (x : Progress). x.folds) er) (ap (λ (x : Progress). x.looks) er) y.traces y.looks)
+          (rest, before, rw (er, x) b, adds_none (fold_statement ctx number ks other) (ap (λ (x : Progress). x.folds) er) (ap (λ (x : Progress). x.looks) er) y.traces y.looks)
 
   -- An expression: its tree can be taken, then it can be pushed.
   module _ (k : s.kind ≡ 5) where
@@ -180,107 +157,29 @@ module _ (merging : Bool) (ctx : Context) (file : List ℕ) (h : Header) (nodes 
         by _ (expressed t) a = (ks, t, all_trees ss, declarator_records (all_declarators ss), suc (length ss), rest, before, expression-state t ss a)
 
     module _ (nodes' statements₁ folded folded' : List ℕ) (l : Progress) (w : SearchedFromStatements ctx file h (tables nodes records starts statements) (tables nodes' records starts statements₁) folded folded' p l) where
-      -- what was searched, of an expression
-      record Expression (ks : List Kept) (st : Statement) (ss : List Statement) (rest : List ℕ) (before : List NodeRecord) : Type 0 where
-        t : Tree
-        is : st ≡ expression t
-        rest' : List ℕ
-        before' : List NodeRecord
-        state : State file h (tables nodes' records starts statements₁) l (holding l.declarators_kept (substitute_in_statement ctx ks t).result.left [] (given (substitute_in_statement ctx ks t).result.target) rest') (following (all_trees ss) (declarator_records (all_declarators ss)) (suc (length ss)) before')
-        adds : Adds folded folded' p l (substitute_in_statement ctx ks t)
+      pub expression-room : CanFold file h (tables nodes records starts statements) s p → l.statements_kept + 1 ≤ h.statements
+      expression-room (ks, st, ss, rest, before, a, e) = by st (is-expressed s st e k) a
+        where
+          by : (st : Statement) → Expressed st → Taking file h (tables nodes records starts statements) p ks (st ∷ ss) rest before → l.statements_kept + 1 ≤ h.statements
+          by _ (expressed t) a =
+              let (rest', before', s', f) = w ks t (all_trees ss) (declarator_records (all_declarators ss)) (suc (length ss)) rest before (expression-state t ss a) in
+              omega (arith, s'.room.stated)
 
-      an_expression : (ks : List Kept) (st : Statement) (ss : List Statement) (rest : List ℕ) (before : List NodeRecord) → Expressed st → Taking file h (tables nodes records starts statements) p ks (st ∷ ss) rest before → Expression ks st ss rest before
-      an_expression ks _ ss rest before (expressed t) a =
-          let (rest', before', s', f) = w ks t (all_trees ss) (declarator_records (all_declarators ss)) (suc (length ss)) rest before (expression-state t ss a) in
-          record { t = t; is = refl; rest' = rest'; before' = before'; state = s'; adds = f }
-
-      pub can_merge-expression : (folded'' : List ℕ) → Long h (tables nodes' records starts statements₁) folded'' → CanFold file h (tables nodes records starts statements) s p → LongTables l (tables nodes' records starts statements₁) × CanMergeSearched (tables nodes' records starts statements₁) l
-      can_merge-expression folded'' long (ks, st, ss, rest, before, a, e) =
-          let x = an_expression ks st ss rest before (is-expressed s st e k) a in
-          (merge-room folded'' x.state long, (_, _, x.rest', x.state.holds))
-
-      module _ (nodes'' records'' starts'' : List ℕ) (m : Progress) (merges : MergesSearched merging true (tables nodes' records starts statements₁) (tables nodes'' records'' starts'' statements₁) l m) where
-        abbrev left : List Kept → Tree → Searched Initializer Kept
-        left ks t = (leading merging true (substitute_in_statement ctx ks t).result.target (substitute_in_statement ctx ks t).result.left).result
-
-        -- what a merge left of it
-        record Merged (ks : List Kept) (st : Statement) (ss : List Statement) (rest : List ℕ) (before : List NodeRecord) : Type 0 where
-          t : Tree
-          is : st ≡ expression t
-          rest' : List ℕ
-          before' : List NodeRecord
-          state : State file h (tables nodes'' records'' starts'' statements₁) m (holding m.declarators_kept (left ks t).left [] (left ks t).target rest') (following (all_trees ss) (declarator_records (all_declarators ss)) (suc (length ss)) before')
-          adds : Adds folded folded' p m (substitute_in_statement ctx ks t)
-
-        merged-expression : (ks : List Kept) (st : Statement) (ss : List Statement) (rest : List ℕ) (before : List NodeRecord) → s ≡ statement_record st → Taking file h (tables nodes records starts statements) p ks (st ∷ ss) rest before → Merged ks st ss rest before
-        merged-expression ks st ss rest before e a =
-            let x = an_expression ks st ss rest before (is-expressed s st e k) a in
-            let v = (substitute_in_statement ctx ks x.t).result in
-            let (rest'', s'', lighter) = merged-state merging true v.left v.target x.rest' x.state merges in
-            record { t = x.t; is = x.is; rest' = rest''; before' = x.before'; state = s''; adds = adds_as (substitute_in_statement ctx ks x.t) lighter.folds lighter.looks refl refl x.adds }
-
-        pub expression-room : CanFold file h (tables nodes records starts statements) s p → m.statements_kept + 1 ≤ h.statements
-        expression-room (ks, st, ss, rest, before, a, e) = let x = merged-expression ks st ss rest before e a in let z = x.state.room.stated in omega (arith, z)
-
-        -- nothing is left of it, by its end; something is
-        nothing_left : (i : Initializer) (at used : ℕ) → used ≡ at + node_count i → at ≡ used → i ≡ bare
-        unfolding node_count
-        nothing_left bare at used e f = refl
-        nothing_left (given t) at used e f = absurd (let z = size_least t in omega (arith, z, e, f))
-
-        something_left : (i : Initializer) (at used : ℕ) → used ≡ at + node_count i → (at ≡ used → ⊥) → (t : Tree) × (i ≡ given t)
-        unfolding node_count
-        something_left bare at used e f = absurd (f (omega (arith, e)))
-        something_left (given t) at used e f = (t, refl)
-
-        -- so it is dropped
-        pub expression-dropped : m.tree.0 ≡ m.nodes_used
-            → Folds merging ctx file h (tables nodes records starts statements) (tables nodes'' records'' starts'' statements₁) folded folded' s p m
-            × TellsKept merging ctx file h (tables nodes records starts statements) s p false
-        expression-dropped f = (folds, tells)
-          where
-            folds : Folds merging ctx file h (tables nodes records starts statements) (tables nodes'' records'' starts'' statements₁) folded folded' s p m
-            folds ks st ss rest before a e number =
-                let x = merged-expression ks st ss rest before e a in
-                let i = nothing_left (left ks x.t).target m.tree.0 m.nodes_used x.state.holds.ends f in
-                let (u, y) = handle_expression_statement merging ctx ks number x.t in
-                let state = subst (λ j. State file h (tables nodes'' records'' starts'' statements₁) m (holding m.declarators_kept (left ks x.t).left [] j x.rest') (following (all_trees ss) (declarator_records (all_declarators ss)) (suc (length ss)) x.before')) i x.state in
-                let result : (fold_statement merging ctx number ks st).result ≡ (left ks x.t).left = ap (λ z. (fold_statement merging ctx number ks z).result) x.is ∙ u ∙ ap (λ z. pushed number z (left ks x.t).left) i ∙ (unfold pushed in refl) in
-                (x.rest', x.before', rw result (one_less state), adds_as (fold_statement merging ctx number ks st) refl refl (ap (λ z. (fold_statement merging ctx number ks z).trace) x.is ∙ y.traces) (ap (λ z. (fold_statement merging ctx number ks z).looks) x.is ∙ y.looks) x.adds)
-
-            tells : TellsKept merging ctx file h (tables nodes records starts statements) s p false
-            tells ks st ss rest before a e =
-                let x = merged-expression ks st ss rest before e a in
-                let i = nothing_left (left ks x.t).target m.tree.0 m.nodes_used x.state.holds.ends f in
-                sym (kept_by merging ctx ks st x.t bare x.is i ∙ none_left)
-
-        -- or pushed
-        pub expression-pushed : (m.tree.0 ≡ m.nodes_used → ⊥) → (statements' : List ℕ) (r : Progress) → StatementPushed statements₁ statements' m.statements_kept s → r ≡ statement_past m
-            → Folds merging ctx file h (tables nodes records starts statements) (tables nodes'' records'' starts'' statements') folded folded' s p r
-            × TellsKept merging ctx file h (tables nodes records starts statements) s p true
-        expression-pushed f statements' r written er = (folds, tells)
-          where
-            folds : Folds merging ctx file h (tables nodes records starts statements) (tables nodes'' records'' starts'' statements') folded folded' s p r
-            folds ks st ss rest before a e number =
-                let x = merged-expression ks st ss rest before e a in
-                let (t', i) = something_left (left ks x.t).target m.tree.0 m.nodes_used x.state.holds.ends f in
-                let (u, y) = handle_expression_statement merging ctx ks number x.t in
-                let state = subst (λ j. State file h (tables nodes'' records'' starts'' statements₁) m (holding m.declarators_kept (left ks x.t).left [] j x.rest') (following (all_trees ss) (declarator_records (all_declarators ss)) (suc (length ss)) x.before')) i x.state in
-                let b = statement-state number (expression t') (becomes-expression t') state written (e ∙ ap statement_record x.is ∙ (unfold statement_record statement_number declarators_in in refl)) in
-                let result : (fold_statement merging ctx number ks st).result ≡ record { number = number; statement = expression t' } ∷ (left ks x.t).left = ap (λ z. (fold_statement merging ctx number ks z).result) x.is ∙ u ∙ ap (λ z. pushed number z (left ks x.t).left) i ∙ (unfold pushed in refl) in
-                (x.rest', x.before', rw (er, result) b, adds_as (fold_statement merging ctx number ks st) (ap (λ (x : Progress). x.folds) er) (ap (λ (x : Progress). x.looks) er) (ap (λ z. (fold_statement merging ctx number ks z).trace) x.is ∙ y.traces) (ap (λ z. (fold_statement merging ctx number ks z).looks) x.is ∙ y.looks) x.adds)
-
-            tells : TellsKept merging ctx file h (tables nodes records starts statements) s p true
-            tells ks st ss rest before a e =
-                let x = merged-expression ks st ss rest before e a in
-                let (t', i) = something_left (left ks x.t).target m.tree.0 m.nodes_used x.state.holds.ends f in
-                sym (kept_by merging ctx ks st x.t (given t') x.is i ∙ some_left t')
-
-  -- any statement but an expression is kept
-  pub tells-kept : (s.kind ≡ 5 → ⊥) → TellsKept merging ctx file h (tables nodes records starts statements) s p true
-  tells-kept n ks (declaration kind ds) ss rest before a e = unfold is_kept in refl
-  tells-kept n ks (expression t) ss rest before a e = absurd (n (kind-is s (expression t) e ∙ (unfold statement_number in refl)))
-  tells-kept n ks other ss rest before a e = unfold is_kept in refl
+      pub expression-folds : (statements' : List ℕ) (r : Progress) → StatementPushed statements₁ statements' l.statements_kept s → r ≡ statement_past l
+          → Folds ctx file h (tables nodes records starts statements) (tables nodes' records starts statements') folded folded' s p r
+      unfolding statement_record statement_number declarators_in
+      expression-folds statements' r pushed er ks st ss rest before a e number = by st (is-expressed s st e k) a e
+        where
+          by : (st : Statement) → Expressed st → Taking file h (tables nodes records starts statements) p ks (st ∷ ss) rest before → s ≡ statement_record st
+              → (rest' : List ℕ) × (before' : List NodeRecord)
+              × Taking file h (tables nodes' records starts statements') r (fold_statement ctx number ks st).result ss rest' before'
+              × Adds folded folded' p r (fold_statement ctx number ks st)
+          by _ (expressed t) a e =
+              let (rest', before', s', f) = w ks t (all_trees ss) (declarator_records (all_declarators ss)) (suc (length ss)) rest before (expression-state t ss a) in
+              let t' = (substitute_in_statement ctx ks t).result.target in
+              let (x, y) = handle_expression_statement ctx ks number t in
+              let b = statement-state number (expression t') (becomes-expression t') s' pushed e in
+              (rest', before', rw (er, x) b, adds_as (fold_statement ctx number ks (expression t)) (ap (λ (x : Progress). x.folds) er) (ap (λ (x : Progress). x.looks) er) y.traces y.looks f)
 
   -- A declaration with declarators: the first can be taken, then the others, then it can be pushed.
   module _ (k : s.kind < 5) (number₀ : ℕ) (en₀ : number₀ ≡ s.declarators) (n : number₀ ≡ 0 → ⊥) where
@@ -292,12 +191,12 @@ module _ (merging : Bool) (ctx : Context) (file : List ℕ) (h : Header) (nodes 
         by _ (declared kind d ds ek en) a =
             (ks, d, initializer_trees ds (all_trees ss), declarator_records ds ++ declarator_records (all_declarators ss), suc (length ss), rest, before, declaration-state kind (d ∷ ds) ss a)
 
-    module _ (nodes₁ records₁ starts₁ statements₁ folded folded₁ : List ℕ) (f : Progress) (first : TakenFirst merging ctx file h (tables nodes records starts statements) (tables nodes₁ records₁ starts₁ statements₁) folded folded₁ p f) where
+    module _ (nodes₁ records₁ starts₁ statements₁ folded folded₁ : List ℕ) (f : Progress) (first : TakenFirst ctx file h (tables nodes records starts statements) (tables nodes₁ records₁ starts₁ statements₁) folded folded₁ p f) where
       first-state : (kind : DeclarationKind) (d : Declarator) (ds : List Declarator) (ks : List Kept) (ss : List Statement) (rest : List ℕ) (before : List NodeRecord)
           → Taking file h (tables nodes records starts statements) p ks (declaration kind (d ∷ ds) ∷ ss) rest before
           → (rest' : List ℕ) × (before' : List NodeRecord)
-          × State file h (tables nodes₁ records₁ starts₁ statements₁) f (holding (f.declarators_kept - 1) (first_declarator merging ctx ks (d ∷ [])).result.left (first_declarator merging ctx ks (d ∷ [])).result.target bare rest') (following (initializer_trees ds (all_trees ss)) (declarator_records ds ++ declarator_records (all_declarators ss)) (suc (length ss)) before')
-          × Adds folded folded₁ p f (first_declarator merging ctx ks (d ∷ []))
+          × State file h (tables nodes₁ records₁ starts₁ statements₁) f (holding (f.declarators_kept - 1) (in_first_declarator ctx ks (d ∷ [])).result.left (in_first_declarator ctx ks (d ∷ [])).result.target bare rest') (following (initializer_trees ds (all_trees ss)) (declarator_records ds ++ declarator_records (all_declarators ss)) (suc (length ss)) before')
+          × Adds folded folded₁ p f (in_first_declarator ctx ks (d ∷ []))
       unfolding initializer_trees declarator_records
       first-state kind d ds ks ss rest before a =
           first ks d (initializer_trees ds (all_trees ss)) (declarator_records ds ++ declarator_records (all_declarators ss)) (suc (length ss)) rest before (declaration-state kind (d ∷ ds) ss a)
@@ -309,21 +208,21 @@ module _ (merging : Bool) (ctx : Context) (file : List ℕ) (h : Header) (nodes 
               → (1 ≤ f.declarators_kept) × CanTakeAll file h (declarator_tables nodes₁ records₁ starts₁) (f.declarators_kept - 1) (number₀ - 1) f
           by _ (declared kind d ds ek en) a =
               let (rest', before', s', m) = first-state kind d ds ks ss rest before a in
-              let w = (first_declarator merging ctx ks (d ∷ [])).result in
-              (omega (arith, s'.holds.counted, first-length merging ctx ks d), (statements₁, w.left, w.target, ds, all_trees ss, declarator_records (all_declarators ss), suc (length ss), rest', before', s', omega (arith, en)))
+              let w = (in_first_declarator ctx ks (d ∷ [])).result in
+              (omega (arith, s'.holds.counted, first-length ctx ks d), (statements₁, w.left, w.target, ds, all_trees ss, declarator_records (all_declarators ss), suc (length ss), rest', before', s', omega (arith, en)))
 
       module _ (searched : Bool) (nodes₂ records₂ starts₂ folded₂ : List ℕ) (l : Progress)
           (later : TakenAll ctx searched file h (declarator_tables nodes₁ records₁ starts₁) (declarator_tables nodes₂ records₂ starts₂) folded₁ folded₂ (f.declarators_kept - 1) (number₀ - 1) f l) where
         later-state : (kind : DeclarationKind) (d : Declarator) (ds : List Declarator) (ks : List Kept) (ss : List Statement) (rest : List ℕ) (before : List NodeRecord)
             → s.declarators ≡ suc (length ds) → Taking file h (tables nodes records starts statements) p ks (declaration kind (d ∷ ds) ∷ ss) rest before
-            → let w = first_declarator merging ctx ks (d ∷ []) in
+            → let w = in_first_declarator ctx ks (d ∷ []) in
             let v = later_declarators ctx (in_file_order w.result.left) kind searched w.result.target ds in
             (rest' : List ℕ) × (before' : List NodeRecord)
             × State file h (tables nodes₂ records₂ starts₂ statements₁) l (holding (f.declarators_kept - 1) w.result.left v.result bare rest') (following (all_trees ss) (declarator_records (all_declarators ss)) (suc (length ss)) before')
             × Adds folded folded₁ p f w × Adds folded₁ folded₂ f l v
         later-state kind d ds ks ss rest before en a =
             let (rest₁, before₁, s₁, m₁) = first-state kind d ds ks ss rest before a in
-            let w = first_declarator merging ctx ks (d ∷ []) in
+            let w = in_first_declarator ctx ks (d ∷ []) in
             let v = later_declarators ctx (in_file_order w.result.left) kind searched w.result.target ds in
             let (rest₂, before₂, s₂, m₂) = later statements₁ w.result.left w.result.target ds (all_trees ss) (declarator_records (all_declarators ss)) (suc (length ss)) rest₁ before₁ s₁ (omega (arith, en)) (in_file_order w.result.left) kind in
             (rest₂, before₂, s₂, m₁, m₂)
@@ -338,21 +237,21 @@ module _ (merging : Bool) (ctx : Context) (file : List ℕ) (h : Header) (nodes 
                 (omega (arith, s'.holds.counted), omega (arith, s'.room.declared), omega (arith, s'.room.stated))
 
         pub declaration-folds : searched ≡ not (is_unsearched ctx || is_using (declaration_kind s.kind)) → (statements' : List ℕ) (x : StatementRecord) (r : Progress) → x ≡ record { kind = s.kind; zero = 0; declarators = l.declarators_kept - (f.declarators_kept - 1) } → StatementPushed statements₁ statements' l.statements_kept x → r ≡ statement_past l
-            → Folds merging ctx file h (tables nodes records starts statements) (tables nodes₂ records₂ starts₂ statements') folded folded₂ s p r
+            → Folds ctx file h (tables nodes records starts statements) (tables nodes₂ records₂ starts₂ statements') folded folded₂ s p r
         unfolding statement_record statement_number declarators_in
         declaration-folds es statements' x r ex pushed er ks st ss rest before a e number = by st (is_declared s st e k (λ q. n (en₀ ∙ q))) a
           where
             by : (st : Statement) → Declared s st → Taking file h (tables nodes records starts statements) p ks (st ∷ ss) rest before
                 → (rest' : List ℕ) × (before' : List NodeRecord)
-                × Taking file h (tables nodes₂ records₂ starts₂ statements') r (fold_statement merging ctx number ks st).result ss rest' before'
-                × Adds folded folded₂ p r (fold_statement merging ctx number ks st)
+                × Taking file h (tables nodes₂ records₂ starts₂ statements') r (fold_statement ctx number ks st).result ss rest' before'
+                × Adds folded folded₂ p r (fold_statement ctx number ks st)
             by _ (declared kind d ds ek en) a =
                 let (rest', before', s', m₁, m₂) = later-state kind d ds ks ss rest before en a in
-                let w = first_declarator merging ctx ks (d ∷ []) in
+                let w = in_first_declarator ctx ks (d ∷ []) in
                 let v = later_declarators ctx (in_file_order w.result.left) kind searched w.result.target ds in
                 let many : l.declarators_kept - (f.declarators_kept - 1) ≡ length (reverse v.result) = omega (arith, s'.holds.counted, length-reverse v.result) in
                 let is : x ≡ statement_record (declaration kind (reverse v.result)) = ex ∙ (λ i. record { kind = ek i; zero = 0; declarators = many i }) in
                 let b = statement-state number (declaration kind (reverse v.result)) (becomes-declaration kind v.result) s' pushed is in
                 let same : searched ≡ not (is_unsearched ctx || is_using kind) = es ∙ ap (λ (c : DeclarationKind). not (is_unsearched ctx || is_using c)) (ap declaration_kind ek ∙ kind-back kind) in
-                let (u, y, z) = handle_variable_declaration merging ctx ks number kind d ds searched same in
-                (rest', before', rw (er, u) b, adds_as (fold_statement merging ctx number ks (declaration kind (d ∷ ds))) (ap (λ (x : Progress). x.folds) er) (ap (λ (x : Progress). x.looks) er) refl refl (adds_then (fold_statement merging ctx number ks (declaration kind (d ∷ ds))) y z m₁ m₂))
+                let (u, y, z) = handle_variable_declaration ctx ks number kind d ds searched same in
+                (rest', before', rw (er, u) b, adds_as (fold_statement ctx number ks (declaration kind (d ∷ ds))) (ap (λ (x : Progress). x.folds) er) (ap (λ (x : Progress). x.looks) er) refl refl (adds_then (fold_statement ctx number ks (declaration kind (d ∷ ds))) y z m₁ m₂))

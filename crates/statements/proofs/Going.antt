@@ -1,20 +1,19 @@
 -- Later declarators of a declaration, and the first. Assumes nothing.
 use mathlib.Core.Bool.{Bool, false}
-use mathlib.Core.Path.{◌≡◌, refl, ap, subst, ◌∙◌}
+use mathlib.Core.Path.{◌≡◌, refl, ap}
 use mathlib.Core.List.{List, [], ◌∷◌, ◌++◌}
 use Prim.Native.Nat.{ℕ, ◌+◌, ◌-◌, ◌*◌, ◌≤◌, ◌<◌}
 use native.Mathlib.Omega.{arith}
 use lib.ListN.{length}
 use Rattle.records.specs.Record.{declarator_at}
-use Rattle.records.specs.Tree.{Tree, Trees}
-use Rattle.records.specs.File.{DeclarationKind, Var, bare, given, Declarator, Statement, initializer_tree, initializer_trees, declarator_records, declarators_start}
+use Rattle.records.specs.Tree.{Trees}
+use Rattle.records.specs.File.{DeclarationKind, Var, bare, Declarator, Statement, initializer_trees, declarator_records, declarators_start}
 use Rattle.records.specs.declared.layout.Header.{Header}
 use Rattle.records.specs.declared.layout.NodeRecord.{NodeRecord}
 use Rattle.records.specs.declared.layout.DeclaratorRecord.{DeclaratorRecord}
 use Rattle.walk_rules.specs.Context.{Context}
 use Rattle.statements_rules.specs.Trace.{Traced, pure, ◌>>=◌}
-use Rattle.statements_rules.specs.Statements.{Kept, substitute_in_statement, leading}
-use Rattle.statements_rules.proofs.Merging.{leading-given}
+use Rattle.statements_rules.specs.Statements.{Kept, substitute_in_statement, in_first_declarator}
 use Rattle.statements_progress.specs.declared.progress.Progress.{Progress}
 use Rattle.statements_progress.specs.Pushed.{DeclaratorPushed, declarator_past}
 use Rattle.records_table.specs.Overwrites.{Overwrites}
@@ -25,13 +24,11 @@ use Rattle.statements_progress.specs.Listed.{names_from}
 use Rattle.statements_search.specs.FromDeclarators.{CanSearch, SearchesFrom}
 use Rattle.statements_search.specs.InStatement.{CanSearchStatements, SearchesStatements}
 use Rattle.statements.specs.Added.{Adds}
-use Rattle.statements.specs.State.{most_nodes, most_looks, Long, LongTables, State, holding, following, declarator_tables}
+use Rattle.statements.specs.State.{most_nodes, most_looks, Long, State, holding, following, declarator_tables}
 use Rattle.statements_progress.specs.Loaded.{HasTree, Loaded}
 use Rattle.statements.specs.Next.{CanTakeNext, SearchedFromStatements}
-use Rattle.statements.specs.Merged.{CanMergeSearched, Lighter, MergesSearched}
-use Rattle.statements.specs.Declarators.{record_for, CanTakeFirst, first_declarator, TakenFirst, later_tree, CanTakeLaterTree, TakenLaterTree, later_declarator, later_declarators, CanTakeLater, TakenLater, CanTakeAll, TakenAll}
+use Rattle.statements.specs.Declarators.{record_for, CanTakeFirst, TakenFirst, later_tree, CanTakeLaterTree, TakenLaterTree, later_declarator, later_declarators, CanTakeLater, TakenLater, CanTakeAll, TakenAll}
 use Rattle.statements.proofs.Adding.{adds_none, adds_as, adds_then}
-use Rattle.statements.proofs.Merging.{merged-state, merge-room}
 use Rattle.statements.proofs.Taken.{next_loaded, next-searched, next-folded, next_added, later-folded, later-left, record_is, given-tree, no_tree, push_given, push_bare, push_room}
 use Rattle.statements.proofs.Loads.{has_tree, loaded_state}
 use Rattle.statements.proofs.Searches.{searched_past, can_search-statements, can_search}
@@ -140,57 +137,30 @@ module _ (ctx : Context) (file : List ℕ) (h : Header) (x : DeclaratorRecord) (
         (ks, t, ts, record_for d ∷ coming, left, rest, before, s')
 
     module _ (nodes' statements' folded folded' : List ℕ) (q : Progress) (l : SearchedFromStatements ctx file h (tables nodes records starts statements) (tables nodes' records starts statements') folded folded' p q) where
-      searched-state : (ks : List Kept) (d : Declarator) (ts : Trees) (coming : List DeclaratorRecord) (left : ℕ) (rest : List ℕ) (before : List NodeRecord) → State file h (tables nodes records starts statements) p (holding p.declarators_kept ks [] bare rest) (following (initializer_tree d.initializer ts) (record_for d ∷ coming) left before)
-          → (t : Tree) × (d.initializer ≡ given t) × (rest' : List ℕ) × (before' : List NodeRecord)
-          × State file h (tables nodes' records starts statements') q (holding q.declarators_kept (substitute_in_statement ctx ks t).result.left [] (given (substitute_in_statement ctx ks t).result.target) rest') (following ts (record_for d ∷ coming) left before')
-          × Adds folded folded' p q (substitute_in_statement ctx ks t)
-      searched-state ks d ts coming left rest before s =
+      pub can_push_first : CanTakeFirst file h (tables nodes records starts statements) p → (q.declarators_kept + 1 ≤ h.declarators) × (q.declarators_read < 65536)
+      can_push_first (ks, d, ts, coming, left, rest, before, s) =
           let (t, e, s') = given-tree d ts s x ex g in
           let (rest', before', s'', f) = l ks t ts (record_for d ∷ coming) left rest before s' in
-          (t, e, rest', before', s'', f)
+          push_room s''
 
-      -- its leading assignments can be merged
-      pub can_merge-first : (folded'' : List ℕ) → Long h (tables nodes' records starts statements') folded'' → CanTakeFirst file h (tables nodes records starts statements) p → LongTables q (tables nodes' records starts statements') × CanMergeSearched (tables nodes' records starts statements') q
-      can_merge-first folded'' long (ks, d, ts, coming, left, rest, before, s) =
-          let (t, e, rest', before', s'', f) = searched-state ks d ts coming left rest before s in
-          (merge-room folded'' s'' long, (_, _, rest', s''.holds))
+      pub first_taken : (records' starts' : List ℕ) (r : Progress) → DeclaratorPushed records records' starts starts' q.declarators_kept q.tree.0 x → r ≡ declarator_past q
+          → TakenFirst ctx file h (tables nodes records starts statements) (tables nodes' records' starts' statements') folded folded' p r
+      first_taken records' starts' r w er ks d ts coming left rest before s =
+          let (t, e, s') = given-tree d ts s x ex g in
+          let (rest', before', s'', f) = l ks t ts (record_for d ∷ coming) left rest before s' in
+          let a = push_given d t (substitute_in_statement ctx ks t).result.target e s'' x (record_is d ts s x ex) w in
+          let (u, v, m) = first-given ctx ks d t e in
+          let low-is : q.declarators_kept + 1 - 1 ≡ q.declarators_kept = omega arith in
+          (rest', before', rw (er, u, v, low-is) a, adds_as (in_first_declarator ctx ks (d ∷ [])) (ap (λ (x : Progress). x.folds) er) (ap (λ (x : Progress). x.looks) er) m.traces m.looks f)
 
-      module _ (merging : Bool) (nodes'' records'' starts'' : List ℕ) (m : Progress) (merges : MergesSearched merging false (tables nodes' records starts statements') (tables nodes'' records'' starts'' statements') q m) where
-        merged-first : (ks : List Kept) (d : Declarator) (ts : Trees) (coming : List DeclaratorRecord) (left : ℕ) (rest : List ℕ) (before : List NodeRecord) → State file h (tables nodes records starts statements) p (holding p.declarators_kept ks [] bare rest) (following (initializer_tree d.initializer ts) (record_for d ∷ coming) left before)
-            → (t : Tree) × (d.initializer ≡ given t) × (y : Tree)
-            × ((leading merging false (substitute_in_statement ctx ks t).result.target (substitute_in_statement ctx ks t).result.left).result.target ≡ given y)
-            × (rest' : List ℕ) × (before' : List NodeRecord)
-            × State file h (tables nodes'' records'' starts'' statements') m (holding m.declarators_kept (leading merging false (substitute_in_statement ctx ks t).result.target (substitute_in_statement ctx ks t).result.left).result.left [] (given y) rest') (following ts (record_for d ∷ coming) left before')
-            × Lighter q m × Adds folded folded' p q (substitute_in_statement ctx ks t)
-        merged-first ks d ts coming left rest before s =
-            let (t, e, rest', before', s'', f) = searched-state ks d ts coming left rest before s in
-            let w = (substitute_in_statement ctx ks t).result in
-            let (rest'', s''', lighter) = merged-state merging false w.left w.target rest' s'' merges in
-            let (y, i) = leading-given merging w.target w.left in
-            (t, e, y, i, rest'', before', subst (λ j. State file h (tables nodes'' records'' starts'' statements') m (holding m.declarators_kept (leading merging false w.target w.left).result.left [] j rest'') (following ts (record_for d ∷ coming) left before')) i s''', lighter, f)
-
-        pub can_push_first : CanTakeFirst file h (tables nodes records starts statements) p → (m.declarators_kept + 1 ≤ h.declarators) × (m.declarators_read < 65536)
-        can_push_first (ks, d, ts, coming, left, rest, before, s) =
-            let (t, e, y, i, rest', before', s'', lighter, f) = merged-first ks d ts coming left rest before s in
-            push_room s''
-
-        pub first_taken : (records''' starts''' : List ℕ) (r : Progress) → DeclaratorPushed records'' records''' starts'' starts''' m.declarators_kept m.tree.0 x → r ≡ declarator_past m
-            → TakenFirst merging ctx file h (tables nodes records starts statements) (tables nodes'' records''' starts''' statements') folded folded' p r
-        first_taken records''' starts''' r w er ks d ts coming left rest before s =
-            let (t, e, y, i, rest', before', s'', lighter, f) = merged-first ks d ts coming left rest before s in
-            let a = push_given d t y e s'' x (record_is d ts s x ex) w in
-            let (u, v, n) = first-given merging ctx ks d t y e i in
-            let low-is : m.declarators_kept + 1 - 1 ≡ m.declarators_kept = omega arith in
-            (rest', before', rw (er, u, v, low-is) a, adds_as (first_declarator merging ctx ks (d ∷ [])) (ap (λ (x : Progress). x.folds) er ∙ lighter.folds) (ap (λ (x : Progress). x.looks) er ∙ lighter.looks) n.traces n.looks f)
-
-  pub first-taken_bare : (merging : Bool) (nodes records records' starts starts' statements folded : List ℕ) (r : Progress) → (x.present ≡ 1 → ⊥) → DeclaratorPushed records records' starts starts' p.declarators_kept p.tree.0 x → r ≡ declarator_past p
-      → TakenFirst merging ctx file h (tables nodes records starts statements) (tables nodes records' starts' statements) folded folded p r
-  first-taken_bare merging nodes records records' starts starts' statements folded r g w er ks d ts coming left rest before s =
+  pub first-taken_bare : (nodes records records' starts starts' statements folded : List ℕ) (r : Progress) → (x.present ≡ 1 → ⊥) → DeclaratorPushed records records' starts starts' p.declarators_kept p.tree.0 x → r ≡ declarator_past p
+      → TakenFirst ctx file h (tables nodes records starts statements) (tables nodes records' starts' statements) folded folded p r
+  first-taken_bare nodes records records' starts starts' statements folded r g w er ks d ts coming left rest before s =
       let (e, s') = no_tree d ts s x ex g in
-      let (u, v, m) = first-bare merging ctx ks d e in
+      let (u, v, m) = first-bare ctx ks d e in
       let a = push_bare d s' x (record_is d ts s x ex) w in
       let low-is : p.declarators_kept + 1 - 1 ≡ p.declarators_kept = omega arith in
-      (rest, before, rw (er, u, v, low-is) a, adds_none (first_declarator merging ctx ks (d ∷ [])) (ap (λ (x : Progress). x.folds) er) (ap (λ (x : Progress). x.looks) er) m.traces m.looks)
+      (rest, before, rw (er, u, v, low-is) a, adds_none (in_first_declarator ctx ks (d ∷ [])) (ap (λ (x : Progress). x.folds) er) (ap (λ (x : Progress). x.looks) er) m.traces m.looks)
 
 -- The later declarators, one after the other: what is left of them, from which the same comes.
 module _ (ctx : Context) (searched : Bool) (file : List ℕ) (h : Header) (low : ℕ) where

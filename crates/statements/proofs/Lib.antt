@@ -5,7 +5,6 @@ pub mod Pushes
 pub mod Loads
 pub mod Searches
 pub mod Definitions
-pub mod Merging
 pub mod Taken
 pub mod Going
 pub mod Folding

@@ -1,21 +1,18 @@
 -- The numbers of the statements that are kept. Assumes nothing.
 use mathlib.Core.Bool.{Bool, true, false, cond}
-use mathlib.Core.Path.{◌≡◌, refl, sym, ap, subst, ◌∙◌}
+use mathlib.Core.Path.{◌≡◌, refl, sym, ap, ◌∙◌}
 use mathlib.Core.List.{List, [], ◌∷◌, ◌++◌, append_assoc, append-nil, map, reverse, reverse_aux}
 use Prim.Native.Nat.{ℕ, ◌-◌, ◌≤◌, ◌<◌}
 use native.Mathlib.Omega.{arith}
 use lib.ListN.{length, get_or, set, take}
 use lib.Seq.{take-suc, get_or-set_same, get_or-set_other}
-use Rattle.records.specs.Tree.{Tree, Trees, none, more}
+use Rattle.records.specs.Tree.{Tree}
 use Rattle.records.specs.File.{DeclarationKind, Initializer, bare, given, Declarator, Statement, declaration, expression, other}
 use Rattle.walk_rules.specs.Context.{Context}
-use Rattle.statements_rules.specs.Trace.{pure, ◌>>=◌, noted}
+use Rattle.statements_rules.specs.Trace.{pure, ◌>>=◌}
 use Rattle.statements_rules.specs.Declarators.{is_unsearched, is_using, ended}
-use Rattle.statements_rules.specs.Statements.{Kept, FromStatements, after_declarators, from_statement, from_statements, substitute_in_statement, in_initializer, in_first_declarator, leading, leading_initializer, leading_declarator, pushed, fold_statement}
-use Rattle.statements_rules.specs.Merge.{Taken, taken, untaken, merge_assignment_to_declaration, parts_of, may_take, after_part, merge_parts, left_over, merge_leading_assignments_to_declaration}
-use Rattle.statements_rules.proofs.Taken.{MergedInto, merges-write}
+use Rattle.statements_rules.specs.Statements.{Kept, FromStatements, after_declarators, from_statement, from_statements, substitute_in_statement, in_initializer, in_first_declarator, fold_statement}
 use Rattle.statements.specs.Numbers.{Numbered}
-use Rattle.statements.specs.Folds.{is_left, is_kept}
 
 -- A search keeps the first of the statements, each with its number.
 module _ (ctx : Context) (kept : List ℕ) where
@@ -56,53 +53,14 @@ module _ (ctx : Context) (kept : List ℕ) where
       by bare = n
       by (given t) = in_statement ks t n
 
--- A merge changes none.
-module _ (kept : List ℕ) where
-  merged-numbers : (name : ℕ) (x : Tree) (ks ks' : List Kept) → MergedInto name x ks ks' → Numbered kept ks → Numbered kept ks'
-  unfolding Numbered
-  merged-numbers name x ks ks' m n = subst (Numbered kept) (sym m.into) (let (a, b) = subst (Numbered kept) m.from n in (a, b))
+  -- the statement that was folded comes behind those that its search has left
+  data Last (number : ℕ) : List Kept → Type 0 where
+    last : (s : Statement) (left : List Kept) → Numbered kept left → Last number (record { number = number; statement = s } ∷ left)
 
-  parts-numbers : (discarded : Bool) (ts : Trees) (ks : List Kept) → Numbered kept ks → Numbered kept (merge_parts discarded ts ks).result.left
-  unfolding merge_parts after_part noted pure
-  parts-numbers discarded none ks n = n
-  parts-numbers discarded (more t ts) ks n = by (may_take discarded ts) (merge_assignment_to_declaration t ks) refl (λ ks' n'. parts-numbers discarded ts ks' n')
-    where
-      by : (b : Bool) (o : Taken (List Kept)) → merge_assignment_to_declaration t ks ≡ o → ((ks' : List Kept) → Numbered kept ks' → Numbered kept (merge_parts discarded ts ks').result.left)
-          → Numbered kept (cond b (after_part t ts ks o (λ ks'. merge_parts discarded ts ks')) (ended (more t ts) ks)).result.left
-      by false o e f = n
-      by true (taken ks') e f = f ks' (merged-numbers _ _ ks ks' (merges-write t ks ks' e).into n)
-      by true untaken e f = n
-
-  leading-numbers : (merging discarded : Bool) (t : Tree) (ks : List Kept) → Numbered kept ks → Numbered kept (leading merging discarded t ks).result.left
-  unfolding leading merge_leading_assignments_to_declaration left_over ◌>>=◌ noted pure
-  leading-numbers false discarded t ks n = n
-  leading-numbers true true t ks n = parts-numbers true (parts_of t) ks n
-  leading-numbers true false t ks n = parts-numbers false (parts_of t) ks n
-
-  first-numbers : (merging : Bool) (ds : List Declarator) (ks : List Kept) → Numbered kept ks → Numbered kept (leading_declarator merging ds ks).result.left
-  unfolding leading_declarator leading_initializer pure ◌>>=◌
-  first-numbers merging [] ks n = n
-  first-numbers merging (d ∷ ds) ks n = by d.initializer
-    where
-      by : (i : Initializer) → Numbered kept (leading_initializer merging d ds i ks).result.left
-      by bare = n
-      by (given t) = leading-numbers merging false t ks n
-
--- The statement that was folded comes behind those that are left, or isn't kept.
-module _ (merging : Bool) (ctx : Context) (kept : List ℕ) where
-  data Last (number : ℕ) : Bool → List Kept → Type 0 where
-    last : (s : Statement) (left : List Kept) → Numbered kept left → Last number true (record { number = number; statement = s } ∷ left)
-    dropped : (left : List Kept) → Numbered kept left → Last number false left
-
-  pushed-last : (number : ℕ) (i : Initializer) (ks : List Kept) → Numbered kept ks → Last number (is_left i) (pushed number i ks)
-  unfolding is_left pushed
-  pushed-last number bare ks n = dropped ks n
-  pushed-last number (given t) ks n = last (expression t) ks n
-
-  is_last : (number : ℕ) (ks : List Kept) (st : Statement) → Numbered kept ks → Last number (is_kept merging ctx ks st) (fold_statement merging ctx number ks st).result
-  unfolding fold_statement is_kept pure ◌>>=◌
-  is_last number ks (declaration kind ds) n = last _ _ (first-numbers kept merging _ _ (in_first ctx kept ks ds n))
-  is_last number ks (expression t) n = pushed-last number _ _ (leading-numbers kept merging true _ _ (in_statement ctx kept ks t n))
+  is_last : (number : ℕ) (ks : List Kept) (st : Statement) → Numbered kept ks → Last number (fold_statement ctx number ks st).result
+  unfolding fold_statement pure ◌>>=◌
+  is_last number ks (declaration kind ds) n = last _ _ (in_first ks ds n)
+  is_last number ks (expression t) n = last _ _ (in_statement ks t n)
   is_last number ks other n = last _ _ n
 
 -- an entry behind them may change
@@ -112,26 +70,17 @@ numbered_still kept at number [] l n = tt
 numbered_still kept at number (k ∷ ks) l n =
     (get_or-set_other kept at (length ks) number 0 (λ q. omega (arith, q, l)) ∙ n.0, numbered_still kept at number ks (omega arith) n.1)
 
--- the number of a statement that was folded, written as the last if it is kept
-pub number-written : (merging : Bool) (ctx : Context) (kept : List ℕ) (number : ℕ) (ks : List Kept) (st : Statement) (count : ℕ) → Numbered kept ks → count ≡ length (fold_statement merging ctx number ks st).result → count ≤ length kept
-    → is_kept merging ctx ks st ≡ true → (0 < count) × Numbered (set kept (count - 1) number) (fold_statement merging ctx number ks st).result
+-- the number of a statement that was folded, written as the last
+pub number-written : (ctx : Context) (kept : List ℕ) (number : ℕ) (ks : List Kept) (st : Statement) (count : ℕ) → Numbered kept ks → count ≡ length (fold_statement ctx number ks st).result → count ≤ length kept
+    → (0 < count) × Numbered (set kept (count - 1) number) (fold_statement ctx number ks st).result
 unfolding Numbered
-number-written merging ctx kept number ks st count n e l k = by (is_kept merging ctx ks st) (fold_statement merging ctx number ks st).result (is_last merging ctx kept number ks st n) e k
+number-written ctx kept number ks st count n e l = by (fold_statement ctx number ks st).result (is_last ctx kept number ks st n) e
   where
-    by : (b : Bool) (ls : List Kept) → Last merging ctx kept number b ls → count ≡ length ls → b ≡ true → (0 < count) × Numbered (set kept (count - 1) number) ls
-    by _ _ (last s left n) e k =
+    by : (ls : List Kept) → Last ctx kept number ls → count ≡ length ls → (0 < count) × Numbered (set kept (count - 1) number) ls
+    by _ (last s left n) e =
         let at : count - 1 ≡ length left = omega (arith, e) in
         let own = ap (λ (k : ℕ). get_or (set kept (count - 1) number) k 0) (sym at) ∙ get_or-set_same kept (count - 1) number 0 (omega (arith, e, l)) in
         (omega (arith, e), (own, numbered_still kept (count - 1) number left (omega (arith, at)) n))
-    by _ _ (dropped left n) e k = absurd (let z : ◌≡◌ {A = ℕ} 0 1 = cc in omega arith)
-
--- a dropped one has none
-pub number-dropped : (merging : Bool) (ctx : Context) (kept : List ℕ) (number : ℕ) (ks : List Kept) (st : Statement) → Numbered kept ks → is_kept merging ctx ks st ≡ false → Numbered kept (fold_statement merging ctx number ks st).result
-number-dropped merging ctx kept number ks st n k = by (is_kept merging ctx ks st) (fold_statement merging ctx number ks st).result (is_last merging ctx kept number ks st n) k
-  where
-    by : (b : Bool) (ls : List Kept) → Last merging ctx kept number b ls → b ≡ false → Numbered kept ls
-    by _ _ (last s left n) k = absurd (let z : ◌≡◌ {A = ℕ} 0 1 = cc in omega arith)
-    by _ _ (dropped left n) k = n
 
 -- the numbers in file order
 numbers_onto : (kept : List ℕ) (ks ls : List Kept) → length ks ≤ length kept → Numbered kept ks → take (length ks) kept ++ map (λ k. k.number) ls ≡ map (λ k. k.number) (reverse_aux ks ls)

@@ -66,17 +66,17 @@ pushed-declarator {records' = records'} {starts' = starts'} {statements} {low} {
     }
 
 -- The first of some records, and those behind it.
-module _ {A : Type 0} {read_at : List ℕ → ℕ → A} {file : List ℕ} {from number : ℕ} {x : A} {xs : List A} where
-  pub first_record : StandingRecords read_at file from number (x ∷ xs) → read_at file (from + 4 * number) ≡ x
+module _ {A : Type 0} {readAt : List ℕ → ℕ → A} {file : List ℕ} {from number : ℕ} {x : A} {xs : List A} where
+  pub first_record : StandingRecords readAt file from number (x ∷ xs) → readAt file (from + 4 * number) ≡ x
   unfolding records_from
   first_record h = let e = h.is in cc
 
-  pub next-records : StandingRecords read_at file from number (x ∷ xs) → StandingRecords read_at file from (number + 1) xs
+  pub next-records : StandingRecords readAt file from number (x ∷ xs) → StandingRecords readAt file from (number + 1) xs
   unfolding records_from
   next-records h =
       let e = h.is in
-      let f : records_from (read_at file) 4 (length xs) (from + 4 * number + 4) ≡ xs = cc in
-      record { is = subst (λ (k : ℕ). records_from (read_at file) 4 (length xs) k ≡ xs) (omega arith) f; inside = omega (arith, h.inside) }
+      let f : records_from (readAt file) 4 (length xs) (from + 4 * number + 4) ≡ xs = cc in
+      record { is = subst (λ (k : ℕ). records_from (readAt file) 4 (length xs) k ≡ xs) (omega arith) f; inside = omega (arith, h.inside) }
 
 module _ {file : List ℕ} {h : Header} {nodes records starts statements : List ℕ} {low : ℕ} {p : Progress} {ks : List Kept} {ds : List Declarator} {ts : Trees} {coming : List DeclaratorRecord} {left : ℕ} {rest : List ℕ} {before : List NodeRecord} where
   -- the next declarator of the file is pushed

@@ -56,13 +56,13 @@ pub nodes-counted : (ks : List Kept) → nodes_kept ks ≡ sizes (all_trees (in_
 nodes-counted ks = omega (arith, ap length (trees-laid ks []), kept-length ks [], laids-length (all_trees (in_file_order ks)) [])
 
 -- one record more
-one_more : {A : Type 0} (read_at : ℕ → A) (n at : ℕ) (x : A) (xs : List A) → read_at (at + 4 * n) ≡ x → records_from read_at 4 (suc n) at ++ xs ≡ records_from read_at 4 n at ++ (x ∷ xs)
+one_more : {A : Type 0} (readAt : ℕ → A) (n at : ℕ) (x : A) (xs : List A) → readAt (at + 4 * n) ≡ x → records_from readAt 4 (suc n) at ++ xs ≡ records_from readAt 4 n at ++ (x ∷ xs)
 unfolding records_from
-one_more read_at n at x xs e =
-    ap (λ (k : ℕ). records_from read_at 4 k at ++ xs) (sym (add-one n))
-    ∙ ap (λ (l : List _). l ++ xs) (records_from_add read_at 4 n 1 at)
-    ∙ append_assoc (records_from read_at 4 n at) (read_at (at + 4 * n) ∷ []) xs
-    ∙ ap (λ (y : _). records_from read_at 4 n at ++ (y ∷ xs)) e
+one_more readAt n at x xs e =
+    ap (λ (k : ℕ). records_from readAt 4 k at ++ xs) (sym (add-one n))
+    ∙ ap (λ (l : List _). l ++ xs) (records_from_add readAt 4 n 1 at)
+    ∙ append_assoc (records_from readAt 4 n at) (readAt (at + 4 * n) ∷ []) xs
+    ∙ ap (λ (y : _). records_from readAt 4 n at ++ (y ∷ xs)) e
 
 -- The records of declarators.
 module _ (records starts : List ℕ) where

@@ -1,5 +1,4 @@
 -- The statements of a file, one after the other. Assumes nothing.
-use mathlib.Core.Bool.{Bool, true, false, cond}
 use mathlib.Core.Path.{◌≡◌, refl, sym, ap, subst, ◌∙◌}
 use mathlib.Core.List.{List, [], ◌∷◌, ◌++◌, map, reverse}
 use Prim.Native.Nat.{ℕ, ◌+◌, ◌-◌, ◌*◌, ◌≤◌, ◌<◌}
@@ -14,26 +13,26 @@ use Rattle.records.specs.declared.layout.StatementRecord.{StatementRecord}
 use Rattle.walk_rules.specs.Context.{Context, context_of}
 use Rattle.statements_rules.specs.Trace.{Traced, pure, ◌>>=◌}
 use Rattle.statements_rules.specs.Statements.{Kept, statement_of, fold_statement, fold_statements}
-use Rattle.statements_rules.specs.Fold.{fold_file_by, folded_file, with_statements}
+use Rattle.statements_rules.specs.Fold.{fold_file, folded_file, with_statements}
 use Rattle.statements_search.specs.Kept.{laid_initializer, node_count, laid_declarators, nodes_in, folded_names}
 use Rattle.statements_search.specs.KeptStatements.{declarators_kept, tables}
 use Rattle.statements_progress.specs.declared.progress.Progress.{Progress}
 use Rattle.statements.specs.Added.{Adds}
 use Rattle.statements.specs.Numbers.{Numbered}
 use Rattle.statements.specs.State.{Long, StandingRecords}
-use Rattle.statements.specs.Folds.{Taking, CanFold, Folds, is_kept, TellsKept, Accepted, FoldsAll}
+use Rattle.statements.specs.Folds.{Taking, CanFold, Folds, Accepted, FoldsAll}
 use Rattle.statements.proofs.Adding.{written-first, adds_none, adds_then}
-use Rattle.statements.proofs.Numbers.{number-written, number-dropped, numbers_are}
+use Rattle.statements.proofs.Numbers.{number-written, numbers_are}
 use Rattle.statements.proofs.Pushes.{first_record, next-records}
 use Rattle.statements.proofs.Beginning.{at_start, taking-all, statements-coming, statements_are}
 use Rattle.statements.proofs.Result.{trees-laid, nodes-counted, declarators-counted, statements-counted, declarators_printed, statements_printed}
 
-module _ (merging : Bool) (file : List ℕ) (h : Header) where
+module _ (file : List ℕ) (h : Header) where
   abbrev ctx : Context
   ctx = context_of (read file)
 
   abbrev whole : Traced (List Kept)
-  whole = fold_statements merging (context_of (read file)) 0 [] (read file).statements
+  whole = fold_statements (context_of (read file)) 0 [] (read file).statements
 
   -- The statements before number `i` are taken, and these are left, from which the same comes.
   pub record Ordered (nodes records starts statements folded₀ folded kept : List ℕ) (p : Progress) (i total : ℕ) (ks : List Kept) (ss : List Statement) (rest : List ℕ) (before : List NodeRecord) : Type 0 where
@@ -41,8 +40,8 @@ module _ (merging : Bool) (file : List ℕ) (h : Header) where
     pub coming : StandingRecords statement_at file (statements_start h) i (statement_records ss)
     pub many : i + length ss ≡ total
     pub numbers : Numbered kept ks
-    pub result-is : whole.result ≡ (fold_statements merging ctx i ks ss).result
-    pub adds : {folded' : List ℕ} {r : Progress} → Adds folded folded' p r (fold_statements merging ctx i ks ss) → Adds folded₀ folded' at_start r whole
+    pub result-is : whole.result ≡ (fold_statements ctx i ks ss).result
+    pub adds : {folded' : List ℕ} {r : Progress} → Adds folded folded' p r (fold_statements ctx i ks ss) → Adds folded₀ folded' at_start r whole
 
   abbrev pub SomeOrdered : List ℕ → List ℕ → List ℕ → List ℕ → List ℕ → List ℕ → List ℕ → Progress → ℕ → ℕ → Type 0
   SomeOrdered nodes records starts statements folded₀ folded kept p i total =
@@ -78,70 +77,33 @@ module _ (merging : Bool) (file : List ℕ) (h : Header) where
       can_fold s es (ks, [], rest, before, o) = absurd (omega (arith, o.many))
       can_fold s es (ks, st ∷ ss, rest, before, o) = (ks, st, ss, rest, before, o.taking, es ∙ first_record o.coming)
 
-      -- it is taken, and its number is written as the last of those that are kept, if it is
-      taken-on : (nodes' records' starts' statements' folded' kept' : List ℕ) (s : StatementRecord) (r : Progress) (ks : List Kept) (st : Statement) (ss : List Statement) (rest : List ℕ) (before : List NodeRecord) → s ≡ statement_at file (statements_start h + 4 * i)
-          → Folds merging ctx file h (tables nodes records starts statements) (tables nodes' records' starts' statements') folded folded' s p r
-          → Ordered nodes records starts statements folded₀ folded kept p i total ks (st ∷ ss) rest before
-          → (Numbered kept ks → r.statements_kept ≡ length (fold_statement merging ctx i ks st).result → r.statements_kept ≤ h.statements → Numbered kept' (fold_statement merging ctx i ks st).result)
-          → SomeOrdered nodes' records' starts' statements' folded₀ folded' kept' r (i + 1) total
+      -- it is taken, and its number is written as the last of those that are kept
+      pub ordered_on : (nodes' records' starts' statements' folded' : List ℕ) (s : StatementRecord) (r : Progress) → s ≡ statement_at file (statements_start h + 4 * i)
+          → Folds ctx file h (tables nodes records starts statements) (tables nodes' records' starts' statements') folded folded' s p r → h.statements ≤ length kept
+          → SomeOrdered nodes records starts statements folded₀ folded kept p i total
+          → (0 < r.statements_kept) × (r.statements_kept ≤ length kept) × SomeOrdered nodes' records' starts' statements' folded₀ folded' (set kept (r.statements_kept - 1) i) r (i + 1) total
       unfolding statement_records fold_statements ◌>>=◌
-      taken-on nodes' records' starts' statements' folded' kept' s r ks st ss rest before es w o number =
-          let v = fold_statement merging ctx i ks st in
+      ordered_on nodes' records' starts' statements' folded' s r es w long (ks, [], rest, before, o) = absurd (omega (arith, o.many))
+      ordered_on nodes' records' starts' statements' folded' s r es w long (ks, st ∷ ss, rest, before, o) =
+          let v = fold_statement ctx i ks st in
           let (rest', before', t, f) = w ks st ss rest before o.taking (es ∙ first_record o.coming) i in
-          let few = t.room.stated in (
-            v.result,
-            ss,
-            rest',
-            before',
-            record {
-              taking = t;
-              coming = next-records o.coming;
-              many = omega (arith, o.many);
-              numbers = number o.numbers t.holds.stated (omega (arith, few));
-              result-is = o.result-is;
-              adds = λ a. o.adds (adds_then (fold_statements merging ctx i ks (st ∷ ss)) refl refl f a);
-            },
-          )
-
-      module _ (nodes' records' starts' statements' folded' : List ℕ) (s : StatementRecord) (r : Progress) (b : Bool) (es : s ≡ statement_at file (statements_start h + 4 * i))
-          (w : Folds merging ctx file h (tables nodes records starts statements) (tables nodes' records' starts' statements') folded folded' s p r)
-          (tells : TellsKept merging ctx file h (tables nodes records starts statements) s p b) (long : h.statements ≤ length kept) where
-        kept-is : (ks : List Kept) (st : Statement) (ss : List Statement) (rest : List ℕ) (before : List NodeRecord) → Ordered nodes records starts statements folded₀ folded kept p i total ks (st ∷ ss) rest before → b ≡ is_kept merging ctx ks st
-        unfolding statement_records
-        kept-is ks st ss rest before o = tells ks st ss rest before o.taking (es ∙ first_record o.coming)
-
-        pub room-on : b ≡ true → SomeOrdered nodes records starts statements folded₀ folded kept p i total → (0 < r.statements_kept) × (r.statements_kept ≤ length kept)
-        unfolding statement_records
-        room-on k (ks, [], rest, before, o) = absurd (omega (arith, o.many))
-        room-on k (ks, st ∷ ss, rest, before, o) =
-            let (rest', before', t, f) = w ks st ss rest before o.taking (es ∙ first_record o.coming) i in
-            let few = t.room.stated in
-            ((number-written merging ctx kept i ks st r.statements_kept o.numbers t.holds.stated (omega (arith, few, long)) (sym (kept-is ks st ss rest before o) ∙ k)).0, omega (arith, few, long))
-
-        ordered_on : b ≡ true → SomeOrdered nodes records starts statements folded₀ folded kept p i total → SomeOrdered nodes' records' starts' statements' folded₀ folded' (set kept (r.statements_kept - 1) i) r (i + 1) total
-        ordered_on k (ks, [], rest, before, o) = absurd (omega (arith, o.many))
-        ordered_on k (ks, st ∷ ss, rest, before, o) =
-            taken-on nodes' records' starts' statements' folded' (set kept (r.statements_kept - 1) i) s r ks st ss rest before es w o
-            (λ n e few. (number-written merging ctx kept i ks st r.statements_kept n e (omega (arith, few, long)) (sym (kept-is ks st ss rest before o) ∙ k)).1)
-
-        ordered_dropped : b ≡ false → SomeOrdered nodes records starts statements folded₀ folded kept p i total → SomeOrdered nodes' records' starts' statements' folded₀ folded' kept r (i + 1) total
-        ordered_dropped k (ks, [], rest, before, o) = absurd (omega (arith, o.many))
-        ordered_dropped k (ks, st ∷ ss, rest, before, o) =
-            taken-on nodes' records' starts' statements' folded' kept s r ks st ss rest before es w o
-            (λ n e few. number-dropped merging ctx kept i ks st n (sym (kept-is ks st ss rest before o) ∙ k))
-
-        -- both by what the list of numbers then is
-        pub ordered_next : (kept' : List ℕ) → kept' ≡ cond b (set kept (r.statements_kept - 1) i) kept → SomeOrdered nodes records starts statements folded₀ folded kept p i total → SomeOrdered nodes' records' starts' statements' folded₀ folded' kept' r (i + 1) total
-        ordered_next kept' e o = subst (λ l. SomeOrdered nodes' records' starts' statements' folded₀ folded' l r (i + 1) total) (sym e) (by b refl)
-          where
-            by : (c : Bool) → b ≡ c → SomeOrdered nodes' records' starts' statements' folded₀ folded' (cond c (set kept (r.statements_kept - 1) i) kept) r (i + 1) total
-            by true k = ordered_on k o
-            by false k = ordered_dropped k o
+          let few = t.room.stated in
+          let (some, numbers) = number-written ctx kept i ks st r.statements_kept o.numbers t.holds.stated (omega (arith, few, long)) in
+          let on : Ordered nodes' records' starts' statements' folded₀ folded' (set kept (r.statements_kept - 1) i) r (i + 1) total v.result ss rest' before' =
+          record {
+            taking = t;
+            coming = next-records o.coming;
+            many = omega (arith, o.many);
+            numbers = numbers;
+            result-is = o.result-is;
+            adds = λ a. o.adds (adds_then (fold_statements ctx i ks (st ∷ ss)) refl refl f a);
+          } in
+          (some, omega (arith, few, long), (v.result, ss, rest', before', on))
 
     -- there is none
     pub ordered_ends : total ≤ i → Long h (tables nodes records starts statements) folded₀ → h.statements ≤ length kept → Bytes records → Bytes statements → SomeOrdered nodes records starts statements folded₀ folded kept p i total
-        → FoldsAll merging file nodes records statements folded₀ folded kept (record { nodes_used = p.nodes_used; declarators_kept = p.declarators_kept; statements_kept = p.statements_kept; folds = p.folds; looks = p.looks })
-    unfolding fold_file_by folded_file with_statements fold_statements pure laid_declarators laid_initializer nodes_in node_count
+        → FoldsAll file nodes records statements folded₀ folded kept (record { nodes_used = p.nodes_used; declarators_kept = p.declarators_kept; statements_kept = p.statements_kept; folds = p.folds; looks = p.looks })
+    unfolding fold_file folded_file with_statements fold_statements pure laid_declarators laid_initializer nodes_in node_count
     ordered_ends l (l₁, l₂, l₃, l₄, l₅) l₆ small small' (ks, st ∷ ss, rest, before, o) = absurd (omega (arith, o.many))
     ordered_ends l (l₁, l₂, l₃, l₄, l₅) l₆ small small' (ks, [], rest, before, o) =
         let a = o.taking.holds in

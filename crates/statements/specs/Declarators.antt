@@ -7,8 +7,8 @@ use Rattle.records.specs.declared.layout.NodeRecord.{NodeRecord}
 use Rattle.records.specs.declared.layout.DeclaratorRecord.{DeclaratorRecord}
 use Rattle.walk_rules.specs.Context.{Context}
 use Rattle.statements_rules.specs.Trace.{Traced, pure, ◌>>=◌}
-use Rattle.statements_rules.specs.Declarators.{Searched, FromDeclarators, ended, substitute_from_declarators, within_declarator}
-use Rattle.statements_rules.specs.Statements.{Kept, in_first_declarator, leading_declarator}
+use Rattle.statements_rules.specs.Declarators.{FromDeclarators, ended, substitute_from_declarators, within_declarator}
+use Rattle.statements_rules.specs.Statements.{Kept, in_first_declarator}
 use Rattle.statements_search.specs.KeptStatements.{Tables}
 use Rattle.statements_progress.specs.declared.progress.Progress.{Progress}
 use Rattle.statements.specs.Added.{Adds}
@@ -25,23 +25,19 @@ CanTakeFirst file h t p =
     × State file h t p (holding p.declarators_kept ks [] bare rest)
     (following (initializer_tree d.initializer ts) (record_for d ∷ coming) left before)
 
--- searched from the statements, and its leading assignments merged
-unfoldable pub first_declarator : Bool → Context → List Kept → List Declarator → Traced (Searched (List Declarator) Kept)
-first_declarator merging ctx ks ds = in_first_declarator ctx ks ds >>= λ w. leading_declarator merging w.target w.left
-
--- it was so taken, and pushed
-abbrev pub TakenFirst : Bool → Context → List ℕ → Header → Tables → Tables → List ℕ → List ℕ → Progress → Progress → Type 0
-TakenFirst merging ctx file h t t' folded folded' p r =
+-- it was searched from the statements, and pushed
+abbrev pub TakenFirst : Context → List ℕ → Header → Tables → Tables → List ℕ → List ℕ → Progress → Progress → Type 0
+TakenFirst ctx file h t t' folded folded' p r =
     (ks : List Kept) (d : Declarator) (ts : Trees) (coming : List DeclaratorRecord) (left : ℕ) (rest : List ℕ)
     (before : List NodeRecord)
     → State file h t p (holding p.declarators_kept ks [] bare rest)
     (following (initializer_tree d.initializer ts) (record_for d ∷ coming) left before)
     → (rest' : List ℕ) × (before' : List NodeRecord)
     × State file h t' r
-    (holding (r.declarators_kept - 1) (first_declarator merging ctx ks (d ∷ [])).result.left
-    (first_declarator merging ctx ks (d ∷ [])).result.target bare rest')
+    (holding (r.declarators_kept - 1) (in_first_declarator ctx ks (d ∷ [])).result.left
+    (in_first_declarator ctx ks (d ∷ [])).result.target bare rest')
     (following ts coming left before')
-    × Adds folded folded' p r (first_declarator merging ctx ks (d ∷ []))
+    × Adds folded folded' p r (in_first_declarator ctx ks (d ∷ []))
 
 -- The tree of a later declarator, searched from those before it, unless the declaration isn't searched.
 unfoldable pub later_tree : Context → List Statement → DeclarationKind → Bool → List Declarator → Tree → FromDeclarators

@@ -2,7 +2,6 @@
 pub mod Added
 pub mod State
 pub mod Next
-pub mod Merged
 pub mod Declarators
 pub mod Numbers
 pub mod Folds

@@ -10,10 +10,21 @@ use Rattle.records.specs.declared.layout.DeclaratorRecord.{DeclaratorRecord}
 use Rattle.walk_arms.specs.Search.{all_bare_names}
 use Rattle.statements_rules.specs.Statements.{Kept}
 use Rattle.statements_search.specs.Kept.{laid_initializer, node_count, bare_initializer, laid_declarators, nodes_in, bare_declarators, Held, most_in_use}
-pub use Rattle.statements_search.specs.KeptStatements.{DeclaratorTables, declarator_tables, with_statement_table}
-use Rattle.statements_search.specs.KeptStatements.{Tables, laid_kept, nodes_kept, declarators_kept, bare_kept, HeldKept}
+use Rattle.statements_search.specs.KeptStatements.{Tables, tables, laid_kept, nodes_kept, declarators_kept, bare_kept, HeldKept}
 use Rattle.records_table.specs.Loads.{FileForest}
 use Rattle.statements_progress.specs.declared.progress.Progress.{Progress}
+
+-- the tables that the search within a declaration uses; and with the statements beside them
+pub record DeclaratorTables : Type 0 where
+  pub nodes : List ℕ
+  pub declarators : List ℕ
+  pub starts : List ℕ
+
+abbrev pub declarator_tables : List ℕ → List ℕ → List ℕ → DeclaratorTables
+declarator_tables nodes declarators starts = record { nodes = nodes; declarators = declarators; starts = starts }
+
+abbrev pub with_statement_table : DeclaratorTables → List ℕ → Tables
+with_statement_table t statements = tables t.nodes t.declarators t.starts statements
 
 -- the nodes that a fold of the file may need
 abbrev pub most_nodes : Header → ℕ
@@ -33,12 +44,6 @@ LongWithin h t folded =
     (16 * most_nodes h ≤ length t.nodes) × (4 * h.declarators ≤ length t.declarators)
     × (h.declarators ≤ length t.starts)
     × (h.declarators ≤ length folded)
-
--- room for what is kept
-abbrev pub LongTables : Progress → Tables → Type 0
-LongTables p t =
-    (4 * p.declarators_kept ≤ length t.declarators) × (p.declarators_kept ≤ length t.starts)
-    × (4 * p.statements_kept ≤ length t.statements)
 
 -- What the tables hold: statements that are kept, the last first; behind them the declarators of the declaration under way, the
 -- last first, the first of which has number `low`; the tree of one more, if it has one; and other bytes.
@@ -76,8 +81,8 @@ pub record Holds (t : Tables) (p : Progress) (g : Holding) : Type 0 where
   pub tree-names : bare_initializer g.initializer ≡ true
 
 -- Records of four bytes that stand in a file, from number `number` on, where the first of all begins at byte `from`.
-pub record StandingRecords {A : Type 0} (read_at : List ℕ → ℕ → A) (file : List ℕ) (from number : ℕ) (xs : List A) : Type 0 where
-  pub is : records_from (read_at file) 4 (length xs) (from + 4 * number) ≡ xs
+pub record StandingRecords {A : Type 0} (readAt : List ℕ → ℕ → A) (file : List ℕ) (from number : ℕ) (xs : List A) : Type 0 where
+  pub is : records_from (readAt file) 4 (length xs) (from + 4 * number) ≡ xs
   pub inside : from + 4 * number + 4 * length xs ≤ length file
 
 -- the trees and the declarators of the file that are still to come

@@ -1,5 +1,5 @@
-// A declaration: its first declarator is searched from the statements that are kept, and its leading assignments are merged; each
-// other is searched from those before it (src/peephole/minimize_statements.rs 216-241, with the declarators kept).
+// A declaration: its first declarator is searched from the statements that are kept, each other from those before it
+// (src/peephole/minimize_statements.rs 216-244, without the merges and with the declarators kept).
 ghost use Rattle.std.specs.Prelude.{◌<◌};
 ghost use Rattle.records.specs.File.{read, IsHeaderOf};
 ghost use Rattle.walk_rules.specs.Context.{context_of};
@@ -8,7 +8,6 @@ ghost use Rattle.statements.specs.Declarators.{CanTakeFirst, TakenFirst};
 ghost use Rattle.statements.specs.Folds.{CanFold, Folds};
 ghost use Rattle.statements_search.specs.KeptStatements.{tables};
 
-use crate::merge::merge_searched_tree;
 use crate::next::substitute_in_next_tree;
 use crate::within_declaration::{Declaration, substitute_single_use_symbol_within_declaration};
 use records::layout::{Header, StatementRecord};
@@ -26,13 +25,12 @@ fn fold_first_declarator(
     starts: &mut [usize],
     statements: &mut [u8],
     folded: &mut [u16],
-    merging: bool,
     p: Progress,
 ) -> Progress
     requires header { IsHeaderOf h file.now }
     requires room { Long h (tables nodes.old declarators.old starts.old statements.old) folded.old }
     requires state { CanTakeFirst file.now h (tables nodes.old declarators.old starts.old statements.old) p }
-    ensures taken { TakenFirst merging (context_of (read file.now)) file.now h
+    ensures taken { TakenFirst (context_of (read file.now)) file.now h
         (tables nodes.old declarators.old starts.old statements.old)
         (tables nodes.new declarators.new starts.new statements.new)
         folded.old folded.new p result }
@@ -41,9 +39,7 @@ fn fold_first_declarator(
     let given = d.present == 1;
     if given {
         let l = substitute_in_next_tree(file, h, nodes, declarators, starts, statements, folded, p);
-        // "var a; var b = (a = 1, c);" => "var a = 1; var b = c;"
-        let m = merge_searched_tree(nodes, declarators, starts, statements, merging, false, l);
-        return push_declarator(declarators, starts, d, m);
+        return push_declarator(declarators, starts, d, l);
     }
     push_declarator(declarators, starts, d, p)
 }
@@ -56,7 +52,6 @@ pub(crate) fn handle_variable_declaration(
     starts: &mut [usize],
     statements: &mut [u8],
     folded: &mut [u16],
-    merging: bool,
     s: StatementRecord,
     p: Progress,
 ) -> Progress
@@ -64,7 +59,7 @@ pub(crate) fn handle_variable_declaration(
     requires room { Long h (tables nodes.old declarators.old starts.old statements.old) folded.old }
     requires state { CanFold file.now h (tables nodes.old declarators.old starts.old statements.old) s p }
     requires declaration { s.kind < 5 }
-    ensures folds { Folds merging (context_of (read file.now)) file.now h
+    ensures folds { Folds (context_of (read file.now)) file.now h
         (tables nodes.old declarators.old starts.old statements.old)
         (tables nodes.new declarators.new starts.new statements.new)
         folded.old folded.new s p result }
@@ -73,17 +68,7 @@ pub(crate) fn handle_variable_declaration(
     if declared == 0 {
         return push_statement(statements, s, p);
     }
-    let first = fold_first_declarator(
-        file,
-        h,
-        nodes,
-        declarators,
-        starts,
-        statements,
-        folded,
-        merging,
-        p,
-    );
+    let first = fold_first_declarator(file, h, nodes, declarators, starts, statements, folded, p);
     let low = first.declarators_kept - 1;
     let searched = !(is_unsearched(file, h) | is_using(s.kind));
     let last = substitute_single_use_symbol_within_declaration(

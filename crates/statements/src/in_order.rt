@@ -1,11 +1,11 @@
 // The statements of an accepted file, in order (src/peephole/minimize_statements.rs 53-90: the loop of `minimize_statements`).
-ghost use Rattle.std.specs.Prelude.{true, cond, ◌≡◌, ◌-◌, ◌≤◌, ◌<◌, length, set};
+ghost use Rattle.std.specs.Prelude.{◌≤◌, length};
 ghost use Rattle.records.specs.File.{IsHeaderOf};
 ghost use Rattle.statements.specs.State.{Long};
 ghost use Rattle.statements.specs.Folds.{Accepted, FoldsAll};
 ghost use Rattle.statements_search.specs.KeptStatements.{tables};
 
-use crate::statement::{FoldedStatement, fold_statement};
+use crate::statement::fold_statement;
 use records::layout::{Header, NodeId, statement_at};
 use records::limits::STATEMENT_LENGTH;
 use records::number::size;
@@ -22,22 +22,8 @@ pub struct Totals {
     pub looks: usize,
 }
 
-// The number of a statement that is kept, the last so far, goes to the list of numbers.
-fn list_number(kept: &mut [u16], f: FoldedStatement, number: usize)
-    requires room { f.kept ≡ true → (0 < f.progress.statements_kept) × (f.progress.statements_kept ≤ length kept.old) }
-    requires number { number < 65536 }
-    ensures listed { kept.new
-        ≡ cond f.kept (set kept.old (f.progress.statements_kept - 1) number) kept.old }
-{
-    if f.kept {
-        let p = f.progress;
-        let last = p.statements_kept - 1;
-        kept[last] = number as u16;
-    }
-}
-
 // Fills the tables with what is kept, and two lists: the names that were folded, in the order of the folds, and the numbers
-// that the statements had in the file. `merging` is whether leading assignments are merged.
+// that the statements had in the file.
 pub fn fold_statements(
     file: &[u8],
     h: Header,
@@ -47,13 +33,12 @@ pub fn fold_statements(
     statements: &mut [u8],
     folded: &mut [u16],
     kept: &mut [u16],
-    merging: bool,
 ) -> Totals
     requires header { IsHeaderOf h file.now }
     requires accepted { Accepted file.now }
     requires room { Long h (tables nodes.old declarators.old starts.old statements.old) folded.old }
     requires kept { h.statements ≤ length kept.old }
-    ensures folded { FoldsAll merging file.now nodes.new declarators.new statements.new
+    ensures folded { FoldsAll file.now nodes.new declarators.new statements.new
         folded.old folded.new kept.new result }
 {
     let parts = part_offsets(h);
@@ -72,7 +57,7 @@ pub fn fold_statements(
     let mut i: usize = 0;
     while i < count {
         let s = statement_at(file, from + STATEMENT_LENGTH * i);
-        let f = fold_statement(
+        p = fold_statement(
             file,
             h,
             nodes,
@@ -80,12 +65,12 @@ pub fn fold_statements(
             starts,
             statements,
             folded,
-            merging,
             s,
             p,
         );
-        list_number(kept, f, i);
-        p = f.progress;
+        // it is the last that is kept
+        let last = p.statements_kept - 1;
+        kept[last] = i as u16;
         i += 1;
     }
     Totals {

@@ -1,8 +1,8 @@
 -- What the check of a file's records and the fold of an accepted file come to.
-use Rattle.std.specs.Prelude.{Bool, cond, List, [], ◌++◌, ◌≡◌, ℕ, length, take, drop, eqb, leb}
+use Rattle.std.specs.Prelude.{cond, List, [], ◌++◌, ◌≡◌, ℕ, length, take, drop, eqb, leb}
 use Rattle.records.specs.File.{read, print}
 use Rattle.records.specs.Refusal.{refusal}
-use Rattle.statements_rules.specs.Fold.{Folded, fold_file_by}
+use Rattle.statements_rules.specs.Fold.{Folded, fold_file}
 use Rattle.statements_search.specs.Kept.{folded_names}
 use Rattle.statements_fold.specs.Answer.{laid_into}
 use Rattle.statements_fold.specs.declared.tables.Outcome.{Outcome}
@@ -21,9 +21,9 @@ folds w = record {
 abbrev pub if_accepted : {A : Type 0} → List ℕ → ℕ → A → A → A
 if_accepted bs room a b = cond (eqb (refusal bs room) 0) a b
 
-abbrev pub outcome_of : Bool → List ℕ → ℕ → Outcome
-outcome_of merging bs room =
-    if_accepted bs room (folds (fold_file_by merging (read bs)))
+abbrev pub outcome_of : List ℕ → ℕ → Outcome
+outcome_of bs room =
+    if_accepted bs room (folds (fold_file (read bs)))
     (record { number = refusal bs room; length = 0; folds = 0; statements_kept = 0; looks = 0 })
 
 -- a result at the start of the output, if there is room for it, and else the output as it is
@@ -33,11 +33,8 @@ laid_if_room result output = cond (leb (length result) (length output)) (laid_in
 -- The records of a file were checked, with so much room for the result, and an accepted file was folded: what is returned; the
 -- result in the output, if that is long enough; a list that begins with the folded names, in the order of the folds, and is as it
 -- was behind them; another that begins with the numbers that the statements of the result had in the file.
-pub record FoldsRecords (merging : Bool) (file : List ℕ) (room : ℕ) (output output' folded folded' kept : List ℕ) (r : Outcome)
-    : Type 0 where
-  pub outcome : r ≡ outcome_of merging file room
-  pub written : output'
-      ≡ if_accepted file room (laid_if_room (print (fold_file_by merging (read file)).file) output) output
-  pub names : folded'
-      ≡ if_accepted file room (folded_names (fold_file_by merging (read file)).trace ++ drop r.folds folded) folded
-  pub numbers : take r.statements_kept kept ≡ if_accepted file room (fold_file_by merging (read file)).kept []
+pub record FoldsRecords (file : List ℕ) (room : ℕ) (output output' folded folded' kept : List ℕ) (r : Outcome) : Type 0 where
+  pub outcome : r ≡ outcome_of file room
+  pub written : output' ≡ if_accepted file room (laid_if_room (print (fold_file (read file)).file) output) output
+  pub names : folded' ≡ if_accepted file room (folded_names (fold_file (read file)).trace ++ drop r.folds folded) folded
+  pub numbers : take r.statements_kept kept ≡ if_accepted file room (fold_file (read file)).kept []

@@ -37,7 +37,7 @@ pub fn fold(file: &[u8], output: &mut [u8]) -> FoldAnswer
     let h = header_of(file);
     let mut folded = [0u16; MAX_DECLARATORS as usize];
     let mut kept = [0u16; MAX_STATEMENTS as usize];
-    let r = fold_records(file, h, output.len(), output, &mut folded, &mut kept, true);
+    let r = fold_records(file, h, output.len(), output, &mut folded, &mut kept);
     if r.number > 0 {
         return FoldAnswer::Refused(r.number);
     }

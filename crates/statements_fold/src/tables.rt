@@ -3,7 +3,7 @@
 ghost use Rattle.std.specs.Prelude.{◌++◌, ◌≡◌, ◌≤◌, length, take, drop};
 ghost use Rattle.records.specs.Record.{header_of};
 ghost use Rattle.records.specs.File.{read, print};
-ghost use Rattle.statements_rules.specs.Fold.{fold_file_by};
+ghost use Rattle.statements_rules.specs.Fold.{fold_file};
 ghost use Rattle.records_refusal.specs.Passing.{HeaderPasses};
 ghost use Rattle.statements_search.specs.Kept.{folded_names};
 ghost use Rattle.statements_search.specs.KeptStatements.{tables};
@@ -59,19 +59,17 @@ fn fold_over(
     statements: &mut [u8],
     folded: &mut [u16],
     kept: &mut [u16],
-    merging: bool,
 ) -> Outcome
     requires accepted { Accepted file.now }
     requires header { h ≡ header_of file.now }
     requires room { Long h (tables nodes.old declarators.old starts.old statements.old) folded.old }
     requires kept { h.statements ≤ length kept.old }
-    ensures result { result ≡ folds_of (fold_file_by merging (read file.now)) }
+    ensures result { result ≡ folds_of (fold_file (read file.now)) }
     ensures output { output.new
-        ≡ laid_if_room (print (fold_file_by merging (read file.now)).file) output.old }
+        ≡ laid_if_room (print (fold_file (read file.now)).file) output.old }
     ensures names { folded.new
-        ≡ folded_names (fold_file_by merging (read file.now)).trace ++ drop result.folds folded.old }
-    ensures numbers { take result.statements_kept kept.new
-        ≡ (fold_file_by merging (read file.now)).kept }
+        ≡ folded_names (fold_file (read file.now)).trace ++ drop result.folds folded.old }
+    ensures numbers { take result.statements_kept kept.new ≡ (fold_file (read file.now)).kept }
 {
     let t = fold_statements(
         file,
@@ -82,7 +80,6 @@ fn fold_over(
         statements,
         folded,
         kept,
-        merging,
     );
     let counts = Counts {
         nodes: t.nodes_used,
@@ -117,14 +114,13 @@ fn fold_small(
     output: &mut [u8],
     folded: &mut [u16],
     kept: &mut [u16],
-    merging: bool,
 ) -> Outcome
     requires header { HeaderPasses file.now h }
     requires folded { h.declarators ≤ length folded.old }
     requires kept { h.statements ≤ length kept.old }
     requires nodes { most_nodes h ≤ 240 }
     requires statements { h.statements ≤ 120 }
-    ensures folds { FoldsRecords merging file.now room output.old output.new
+    ensures folds { FoldsRecords file.now room output.old output.new
         folded.old folded.new kept.new result }
 {
     let number = number_of(check_records(file, h, room));
@@ -145,7 +141,6 @@ fn fold_small(
         &mut statements,
         folded,
         kept,
-        merging,
     )
 }
 
@@ -157,12 +152,11 @@ fn fold_large(
     output: &mut [u8],
     folded: &mut [u16],
     kept: &mut [u16],
-    merging: bool,
 ) -> Outcome
     requires header { HeaderPasses file.now h }
     requires folded { h.declarators ≤ length folded.old }
     requires kept { h.statements ≤ length kept.old }
-    ensures folds { FoldsRecords merging file.now room output.old output.new
+    ensures folds { FoldsRecords file.now room output.old output.new
         folded.old folded.new kept.new result }
 {
     let number = number_of(check_records(file, h, room));
@@ -183,7 +177,6 @@ fn fold_large(
         &mut statements,
         folded,
         kept,
-        merging,
     )
 }
 
@@ -199,20 +192,19 @@ pub fn fold_records(
     output: &mut [u8],
     folded: &mut [u16],
     kept: &mut [u16],
-    merging: bool,
 ) -> Outcome
     requires header { HeaderPasses file.now h }
     requires folded { h.declarators ≤ length folded.old }
     requires kept { h.statements ≤ length kept.old }
-    ensures folds { FoldsRecords merging file.now room output.old output.new
+    ensures folds { FoldsRecords file.now room output.old output.new
         folded.old folded.new kept.new result }
 {
     let nodes = size(h.nodes) + 2 * size(h.declarators);
     if nodes > FEW_NODES {
-        return fold_large(file, h, room, output, folded, kept, merging);
+        return fold_large(file, h, room, output, folded, kept);
     }
     if size(h.statements) > FEW_STATEMENTS {
-        return fold_large(file, h, room, output, folded, kept, merging);
+        return fold_large(file, h, room, output, folded, kept);
     }
-    fold_small(file, h, room, output, folded, kept, merging)
+    fold_small(file, h, room, output, folded, kept)
 }

@@ -65,7 +65,7 @@ module _ (file : List ℕ) where
     unfolding accepted
     length-is e =
         let own : file_refusal file ≡ 0 = same_number (λ z. omega (arith, e, z)) ∙ e in
-        ap (λ (m : Numbers). m.result_length) (measures own) ∙ sym (ap (λ (r : Returned). r.result_length) (returned true file room e))
+        ap (λ (m : Numbers). m.result_length) (measures own) ∙ sym (ap (λ (r : Returned). r.result_length) (returned file room e))
 
   looks-bound : (measure_bytes file).looks ≤ ((header_of file).statements + 2 * (header_of file).declarators) * max_nodes
   looks-bound = by (eqb (file_refusal file) 0) refl
@@ -73,14 +73,14 @@ module _ (file : List ℕ) where
       by : (b : Bool) → eqb (file_refusal file) 0 ≡ b → (measure_bytes file).looks ≤ ((header_of file).statements + 2 * (header_of file).declarators) * max_nodes
       by true q =
           let e = eqb-true (file_refusal file) 0 q in
-          rw (measures e) (file-looks-most true file (room_wanted file) (unfold file_refusal in e))
+          rw (measures e) (file-looks-most file (room_wanted file) (unfold file_refusal in e))
       by false q = rw (measures-none (eqb-false (file_refusal file) 0 q)) (omega arith)
 
   pub laws : MeasureLaws file
   laws = record {
-    refuses = λ room n. number ∙ same_number room (λ e. n (number_is true file room ∙ e)) ∙ sym (number_is true file room);
-    short-room = λ room e. number ∙ short room (sym (number_is true file room) ∙ e);
-    folded = λ e room l. number_is true file room ∙ fits room (sym number ∙ e) l;
-    same_length = λ room e. length-is room (sym (number_is true file room) ∙ e);
+    refuses = λ room n. number ∙ same_number room (λ e. n (number_is file room ∙ e)) ∙ sym (number_is file room);
+    short-room = λ room e. number ∙ short room (sym (number_is file room) ∙ e);
+    folded = λ e room l. number_is file room ∙ fits room (sym number ∙ e) l;
+    same_length = λ room e. length-is room (sym (number_is file room) ∙ e);
     looks = looks-bound;
   }

@@ -5,7 +5,7 @@ use mathlib.Core.Bool.{Bool, true, false}
 use mathlib.Core.List.{List}
 use mathlib.Core.Path.{◌≡◌, refl, sym, ap, ◌∙◌}
 use lib.Dec.{eqb}
-use borrow.Author.Tests.{eqb-true, eqb-false}
+use borrow.Author.Tests.{eqb-true, eqb-false, ne_eqb}
 use Rattle.records.specs.Refusal.{room_wanted, refusal, file_refusal}
 use Rattle.statements_fold.specs.declared.tables.Outcome.{Outcome}
 use Rattle.statements_fold.specs.Outcome.{outcome_of, FoldsRecords}
@@ -15,8 +15,8 @@ use Rattle.statements_measure.specs.Laws.{MeasureLaws}
 use Rattle.statements_measure.proofs.Laws.{measures, measures-none, laws}
 
 module _ (file : List ℕ) where
-  pub with-laws : {A : Type 0} → A → A × MeasureLaws file
-  with-laws a = (a, laws file)
+  pub with_laws : {A : Type 0} → A → A × MeasureLaws file
+  with_laws a = (a, laws file)
 
   -- a row refuses the file, in the room that it wants
   pub returns_refused : (number : ℕ) → number ≡ refusal file (room_wanted file) → 0 < number → numbers (Refused number) ≡ measure_bytes file
@@ -24,9 +24,9 @@ module _ (file : List ℕ) where
   returns_refused number e p = sym (measures-none file (λ z. omega (arith, e, z, p)) ∙ rw e)
 
   -- what rows 5 to 11 and the fold come to, with that room
-  module _ (room : ℕ) (room-is : room ≡ room_wanted file) {output output' names names' kept : List ℕ} {r : Outcome} (w : FoldsRecords true file room output output' names names' kept r) where
-    outcome : r ≡ outcome_of true file (room_wanted file)
-    outcome = w.outcome ∙ ap (outcome_of true file) room-is
+  module _ (room : ℕ) (room-is : room ≡ room_wanted file) {output output' names names' kept : List ℕ} {r : Outcome} (w : FoldsRecords file room output output' names names' kept r) where
+    outcome : r ≡ outcome_of file (room_wanted file)
+    outcome = w.outcome ∙ ap (outcome_of file) room-is
 
     pub outcome-refused : 0 < r.number → numbers (Refused r.number) ≡ measure_bytes file
     outcome-refused p = by (eqb (refusal file (room_wanted file)) 0) refl

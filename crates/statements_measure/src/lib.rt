@@ -34,7 +34,7 @@ pub fn measure(file: &[u8]) -> MeasureAnswer
     let mut output = [0u8; 0];
     let mut folded = [0u16; MAX_DECLARATORS as usize];
     let mut kept = [0u16; MAX_STATEMENTS as usize];
-    let r = fold_records(file, h, room, &mut output, &mut folded, &mut kept, true);
+    let r = fold_records(file, h, room, &mut output, &mut folded, &mut kept);
     if r.number > 0 {
         return MeasureAnswer::Refused(r.number);
     }

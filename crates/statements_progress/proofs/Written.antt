@@ -32,10 +32,10 @@ statement-before p x y at h =
     )
 
 -- A record that is written is read at its place, and those before it are as they were.
-module _ {A : Type 0} {read_at : List ℕ → ℕ → A} {bytes : A → List ℕ} (r : Reads read_at bytes 4)
-    (local : (p x y : List ℕ) (at : ℕ) → at + 4 ≤ length p → read_at (p ++ x) at ≡ read_at (p ++ y) at) where
+module _ {A : Type 0} {readAt : List ℕ → ℕ → A} {bytes : A → List ℕ} (r : Reads readAt bytes 4)
+    (local : (p x y : List ℕ) (at : ℕ) → at + 4 ≤ length p → readAt (p ++ x) at ≡ readAt (p ++ y) at) where
   pub written : {bs bs' : List ℕ} (a : A) (at many : ℕ) → at ≡ 4 * many → at + 4 ≤ length bs → Overwrites bs bs' at (bytes a)
-      → (read_at bs' (4 * many) ≡ a) × ((i : ℕ) → i < many → read_at bs' (4 * i) ≡ read_at bs (4 * i))
+      → (readAt bs' (4 * many) ≡ a) × ((i : ℕ) → i < many → readAt bs' (4 * i) ≡ readAt bs (4 * i))
   written {bs} {bs'} a at many e l o =
       let p = take at bs in
       let x = take 4 (drop at bs) in
@@ -43,6 +43,6 @@ module _ {A : Type 0} {read_at : List ℕ → ℕ → A} {bytes : A → List ℕ
       let is : bs ≡ p ++ (x ++ y) = sym (take-append-drop at bs) ∙ ap (λ (t : List ℕ). p ++ t) (sym (take-append-drop 4 (drop at bs))) in
       let lp : length p ≡ at = length-take at bs ∙ omega arith in
       let w = o p x y is lp (length-take 4 (drop at bs) ∙ omega (arith, length-drop at bs, r.measured a)) in (
-        ap₂ read_at w (sym e ∙ sym lp) ∙ read_one_in r p a y,
-        λ i h. ap (λ (t : List ℕ). read_at t (4 * i)) w ∙ local p (bytes a ++ y) (x ++ y) (4 * i) (omega arith) ∙ ap (λ (t : List ℕ). read_at t (4 * i)) (sym is),
+        ap₂ readAt w (sym e ∙ sym lp) ∙ read_one_in r p a y,
+        λ i h. ap (λ (t : List ℕ). readAt t (4 * i)) w ∙ local p (bytes a ++ y) (x ++ y) (4 * i) (omega arith) ∙ ap (λ (t : List ℕ). readAt t (4 * i)) (sym is),
       )

@@ -13,11 +13,10 @@ use Rattle.records.specs.Count.{target_name, first_target, name_read, uses_in, g
 use Rattle.records.specs.Refusal.{room_wanted, refusal}
 use Rattle.walk_rules.specs.Context.{context_of}
 use Rattle.walk_rules.proofs.Computed.{computed as searchComputed}
-use Rattle.statements_rules.specs.Trace.{pure, ◌>>=◌, looked, folded, noted}
+use Rattle.statements_rules.specs.Trace.{pure, ◌>>=◌, looked, folded}
 use Rattle.statements_rules.specs.Declarators.{is_script_root_scope, is_unsearched, is_using, name_needs_to_be_kept, ends_search, fold_of, after_answer, from_declarator, substitute_from_declarators, within_declarator, within_declarators, substitute_within_declaration}
-use Rattle.statements_rules.specs.Merge.{also, is_var, is_var_or_let, into_declarator, into_declarators, into_statement, into_last, is_target_name, is_plain_write, written_name, written_value, merge_assignment_to_declaration, parts_of, of_parts, may_take, after_part, merge_parts, left_of, left_over, merge_leading_assignments_to_declaration}
-use Rattle.statements_rules.specs.Statements.{after_declarators, from_statement, from_statements, substitute_in_statement, in_initializer, in_first_declarator, leading, leading_initializer, leading_declarator, pushed, fold_statement, fold_statements}
-use Rattle.statements_rules.specs.Fold.{with_statements, folded_file, fold_file_by, refused, accepted, fold_bytes_by}
+use Rattle.statements_rules.specs.Statements.{after_declarators, from_statement, from_statements, substitute_in_statement, in_initializer, in_first_declarator, fold_statement, fold_statements}
+use Rattle.statements_rules.specs.Fold.{with_statements, folded_file, fold_file, refused, accepted, fold_bytes}
 
 unfoldable pub computed : Unit {0}
 unfolding searchComputed u16_at u32_at records_from bytes_of every_from header_of header_bytes name_at name_bytes scope_at
@@ -32,8 +31,6 @@ unfolding searchComputed u16_at u32_at records_from bytes_of every_from header_o
     first_target name_read uses_in good_counts bad_counts room_wanted refusal context_of pure ◌>>=◌ looked folded is_script_root_scope is_unsearched
     is_using name_needs_to_be_kept ends_search fold_of after_answer from_declarator substitute_from_declarators within_declarator
     within_declarators substitute_within_declaration after_declarators from_statement from_statements substitute_in_statement
-    in_initializer in_first_declarator noted also is_var is_var_or_let into_declarator into_declarators into_statement into_last is_target_name is_plain_write
-    written_name written_value merge_assignment_to_declaration parts_of of_parts may_take after_part merge_parts left_of left_over
-    merge_leading_assignments_to_declaration leading leading_initializer leading_declarator pushed fold_statement fold_statements
-    with_statements folded_file fold_file_by refused accepted fold_bytes_by
+    in_initializer in_first_declarator fold_statement fold_statements with_statements folded_file fold_file refused accepted
+    fold_bytes
 computed = tt

@@ -1,12 +1,12 @@
 -- The searches of a fold, and their looks, for lists of every length. A tree is searched at most once, and at most once more after
 -- each fold into it; nodes and declarators together never grow, so a searched tree has at most M + D nodes; a search has no more
 -- looks than its tree has nodes. Assumes nothing.
-use Prim.Native.Nat.{ℕ, ◌+◌, ◌*◌, ◌≤◌}
+use Prim.Native.Nat.{ℕ, suc, ◌+◌, ◌*◌, ◌≤◌}
 use native.Mathlib.Nat.{suc-mul, mul-le-mul_right}
 use native.Mathlib.Omega.{arith}
 use mathlib.Core.Bool.{Bool, true, false, cond, ◌||◌}
 use mathlib.Core.List.{List, [], ◌∷◌, ◌++◌, reverse}
-use mathlib.Core.Path.{◌≡◌, refl, sym, ap, subst}
+use mathlib.Core.Path.{◌≡◌, refl, ap}
 use lib.ListN.{length, length-append, length-reverse}
 use Rattle.records.specs.Tree.{Tree, size}
 use Rattle.records.specs.File.{DeclarationKind, Initializer, bare, given, Declarator, Statement, declaration, expression, other, File, declarators_in}
@@ -17,10 +17,9 @@ use Rattle.walk_rules.proofs.Looks.{looks-most}
 use Rattle.walk_rules.proofs.Sizes.{Sized, sized}
 use Rattle.statements_rules.specs.Trace.{Traced, pure, ◌>>=◌, looked, folded}
 use Rattle.statements_rules.specs.Declarators.{is_unsearched, is_using, ends_search, Searched, FromDeclarators, after_answer, from_declarator, substitute_from_declarators, within_declarator, within_declarators, substitute_within_declaration}
-use Rattle.statements_rules.specs.Statements.{Kept, in_file_order, FromStatements, after_declarators, from_statement, from_statements, substitute_in_statement, in_initializer, in_first_declarator, leading, leading_declarator, fold_statement, fold_statements}
-use Rattle.statements_rules.specs.Fold.{fold_file_by, folded_file}
+use Rattle.statements_rules.specs.Statements.{Kept, in_file_order, FromStatements, after_declarators, from_statement, from_statements, substitute_in_statement, in_initializer, in_first_declarator, fold_statement, fold_statements}
+use Rattle.statements_rules.specs.Fold.{fold_file, folded_file}
 use Rattle.statements_rules.specs.Searches.{searched_in, AtMost, sum, T, D, M, SearchLaws}
-use Rattle.statements_rules.proofs.Merging.{Merges, leading-merges, leading-first}
 use Rattle.statements_rules.proofs.Totals.{total, total_reverse, initializer_size, declarator_size, weight, kept_weight, kept_declarators, from-declarators, within-declarator, in_first, fold-statement, weights, declarators, declarators-folded}
 
 module _ (most : ℕ) where
@@ -95,14 +94,6 @@ module _ (most : ℕ) where
 
   more-sought : {A : Type 0} {trees : ℕ} (others : ℕ) (w : Traced A) → trees ≤ others → Sought trees most w → Sought others most w
   more-sought others w l s = record { searches = omega (arith, l, s.searches); nodes = s.nodes; looks = s.looks }
-
-  -- a merge searches nothing
-  merges-sought : {A : Type 0} {size_of : A → ℕ} {nodes : ℕ} {ks : List Kept} {w : Traced (Searched A Kept)} → Merges size_of nodes ks w → Sought 0 most w
-  unfolding AtMost sum
-  merges-sought {w = w} m =
-      let a = ap length m.unsearched in
-      let b = m.unlooked in
-      record { searches = omega (arith, a); nodes = subst (AtMost most) (sym m.unsearched) tt; looks = omega (arith, b) }
 
 -- From declarators.
 module _ (ctx : Context) (before : List Statement) (kind : DeclarationKind) (most : ℕ) where
@@ -229,54 +220,45 @@ module _ (ctx : Context) (most : ℕ) where
       by bare = refl
       by (given t) = refl
 
-  statement-sought : (merging : Bool) (number : ℕ) (ks : List Kept) (s : Statement) → weight s + total kept_weight ks ≤ most → Sought (1 + length (declarators_in s)) most (fold_statement merging ctx number ks s)
+  statement-sought : (number : ℕ) (ks : List Kept) (s : Statement) → weight s + total kept_weight ks ≤ most → Sought (1 + length (declarators_in s)) most (fold_statement ctx number ks s)
   unfolding fold_statement weight declarators_in
-  statement-sought merging number ks (declaration kind ds) l =
+  statement-sought number ks (declaration kind ds) l =
       let w = in_first_declarator ctx ks ds in
       let f = (in_first ctx ks ds).lighter in
       let n = first-length ks ds in
-      let v = leading_declarator merging w.result.target w.result.left in
-      let m = leading-first merging w.result.target w.result.left in
-      let g = m.merges.lighter in
-      let k = m.many in
-      more-sought most _ _ (omega (arith, n, k))
+      more-sought most _ _ (omega (arith, n))
       (then-sought most w _ (first-sought ks ds (omega (arith, l)))
-      (then-sought most v _ (merges-sought most m.merges)
-      (then-sought most (substitute_within_declaration ctx (in_file_order v.result.left) kind v.result.target) _
-      (within_declaration-sought ctx (in_file_order v.result.left) kind most v.result.target (omega (arith, f, g, k, l))) (none-sought most 0 _))))
-  statement-sought merging number ks (expression t) l =
-      let w = substitute_in_statement ctx ks t in
-      let v = leading merging true w.result.target w.result.left in
-      then-sought most w _ (in_statement_tried ks t l).sought
-      (then-sought most v _ (merges-sought most (leading-merges merging true w.result.target w.result.left)) (none-sought most 0 _))
-  statement-sought merging number ks other l = none-sought most 1 _
+      (then-sought most (substitute_within_declaration ctx (in_file_order w.result.left) kind w.result.target) _
+      (within_declaration-sought ctx (in_file_order w.result.left) kind most w.result.target (omega (arith, f, l))) (none-sought most 0 _)))
+  statement-sought number ks (expression t) l = then-sought most (substitute_in_statement ctx ks t) _ (in_statement_tried ks t l).sought (none-sought most 0 _)
+  statement-sought number ks other l = none-sought most 1 _
 
   -- the statements of a file, behind those that are kept
-  pub statements-sought : (merging : Bool) (number : ℕ) (ks : List Kept) (ss : List Statement) → total weight ss + total kept_weight ks ≤ most
-      → Sought (length ss + total (λ s. length (declarators_in s)) ss) most (fold_statements merging ctx number ks ss)
+  pub statements-sought : (number : ℕ) (ks : List Kept) (ss : List Statement) → total weight ss + total kept_weight ks ≤ most
+      → Sought (length ss + total (λ s. length (declarators_in s)) ss) most (fold_statements ctx number ks ss)
   unfolding fold_statements total
-  statements-sought merging number ks [] l = none-sought most 0 (reverse ks)
-  statements-sought merging number ks (s ∷ ss) l =
-      let w = fold_statement merging ctx number ks s in
-      let f = (fold-statement ctx merging number ks s).lighter in
+  statements-sought number ks [] l = none-sought most 0 (reverse ks)
+  statements-sought number ks (s ∷ ss) l =
+      let w = fold_statement ctx number ks s in
+      let f = (fold-statement ctx number ks s).lighter in
       more-sought most _ _ (omega arith)
-      (then-sought most w (λ x. fold_statements merging ctx (number + 1) x ss) (statement-sought merging number ks s (omega (arith, l))) (statements-sought merging (number + 1) w.result ss (omega (arith, f, l))))
+      (then-sought most w (λ x. fold_statements ctx (number + 1) x ss) (statement-sought number ks s (omega (arith, l))) (statements-sought (number + 1) w.result ss (omega (arith, f, l))))
 
 -- Of a file.
-module _ (merging : Bool) (f : File) where
-  file-sought : Sought (T f + D f) (M f + D f) (fold_statements merging (context_of f) 0 [] f.statements)
+module _ (f : File) where
+  file-sought : Sought (T f + D f) (M f + D f) (fold_statements (context_of f) 0 [] f.statements)
   unfolding total
   file-sought =
       more-sought (M f + D f) _ _ (let d = declarators f.statements in omega (arith, d))
-      (statements-sought (context_of f) (M f + D f) merging 0 [] f.statements (omega (arith, weights f.statements)))
+      (statements-sought (context_of f) (M f + D f) 0 [] f.statements (omega (arith, weights f.statements)))
 
-  pub search-laws : SearchLaws merging f
-  unfolding fold_file_by folded_file
+  pub search-laws : SearchLaws f
+  unfolding fold_file folded_file
   search-laws = record { searches = file-sought.searches; nodes = file-sought.nodes; looks = file-sought.looks }
 
   -- so there are at most (T + 2D) × (M + D) looks
-  pub file-looks : (fold_file_by merging f).looks ≤ (T f + 2 * D f) * (M f + D f)
+  pub file-looks : (fold_file f).looks ≤ (T f + 2 * D f) * (M f + D f)
   file-looks =
       let s = search-laws in
-      let few : length (searched_in merging f) ≤ T f + 2 * D f = omega (arith, s.searches, declarators-folded merging f) in
-      omega (arith, s.looks, sum-most (M f + D f) (searched_in merging f) s.nodes, mul-le-mul_right (M f + D f) few)
+      let few : length (searched_in f) ≤ T f + 2 * D f = omega (arith, s.searches, declarators-folded f) in
+      omega (arith, s.looks, sum-most (M f + D f) (searched_in f) s.nodes, mul-le-mul_right (M f + D f) few)

@@ -13,15 +13,39 @@ use Rattle.walk_rules.specs.Looks.{looks_in_expression}
 use Rattle.walk_rules.proofs.Sizes.{Sized, sized}
 use Rattle.statements_rules.specs.Trace.{Traced, pure, ◌>>=◌, looked, folded}
 use Rattle.statements_rules.specs.Declarators.{is_unsearched, is_using, ends_search, Searched, ended, FromDeclarators, after_answer, from_declarator, substitute_from_declarators, within_declarator, within_declarators, substitute_within_declaration}
-use Rattle.statements_rules.specs.Statements.{Kept, statement_of, in_file_order, FromStatements, after_declarators, from_statement, from_statements, substitute_in_statement, in_initializer, in_first_declarator, leading, leading_declarator, pushed, fold_statement, fold_statements}
-use Rattle.statements_rules.specs.Fold.{fold_file_by, folded_file, with_statements}
-use Rattle.statements_rules.proofs.Merging.{leading-merges, leading-first}
-unfoldable pub use Rattle.statements_rules.proofs.Weights.{total, initializer_size, declarator_size, weight, kept_weight, kept_declarators}
-pub use Rattle.statements_rules.proofs.Weights.{total-onto, total-reverse}
+use Rattle.statements_rules.specs.Statements.{Kept, statement_of, in_file_order, FromStatements, after_declarators, from_statement, from_statements, substitute_in_statement, in_initializer, in_first_declarator, fold_statement, fold_statements}
+use Rattle.statements_rules.specs.Fold.{fold_file, folded_file, with_statements}
+
+-- a sum over a list, in either order
+unfoldable pub total : {A : Type 0} → (A → ℕ) → List A → ℕ
+total f [] = 0
+total f (x ∷ xs) = f x + total f xs
+
+total_onto : {A : Type 0} (f : A → ℕ) (xs ys : List A) → total f (reverse_aux xs ys) ≡ total f xs + total f ys
+unfolding total
+total_onto f [] ys = omega arith
+total_onto f (x ∷ xs) ys = total_onto f xs (x ∷ ys) ∙ omega arith
+
+pub total_reverse : {A : Type 0} (f : A → ℕ) (xs : List A) → total f (reverse xs) ≡ total f xs
+unfolding total
+total_reverse f xs = total_onto f xs [] ∙ omega arith
 
 length_onto : {A : Type 0} (xs ys : List A) → length (reverse_aux xs ys) ≡ length xs + length ys
 length_onto [] ys = omega arith
 length_onto (x ∷ xs) ys = length_onto xs (x ∷ ys) ∙ omega arith
+
+unfoldable pub initializer_size : Initializer → ℕ
+initializer_size bare = 0
+initializer_size (given t) = size t
+
+unfoldable pub declarator_size : Declarator → ℕ
+declarator_size d = initializer_size d.initializer
+
+-- the nodes and declarators of a statement
+unfoldable pub weight : Statement → ℕ
+weight (declaration kind ds) = total declarator_size ds + length ds
+weight (expression t) = size t
+weight other = 0
 
 -- what a search leaves of a tree and of declarators weighs no more, and each fold takes one declarator
 pub record Shrunk (nodes declarators : ℕ) (w : FromDeclarators) : Type 0 where
@@ -98,7 +122,7 @@ module _ (ctx : Context) (before : List Statement) (kind : DeclarationKind) wher
   unfolding within_declarators pure ◌>>=◌ total
   within-declarators earlier [] =
       record {
-        lighter = omega (arith, total-onto declarator_size earlier [], length_onto earlier []);
+        lighter = omega (arith, total_onto declarator_size earlier [], length_onto earlier []);
         fewer = omega (arith, length_onto earlier []);
       }
   within-declarators earlier (d ∷ ds) =
@@ -124,20 +148,18 @@ module _ (ctx : Context) (before : List Statement) (kind : DeclarationKind) wher
       unless (is_unsearched ctx || is_using kind) ds (within_declarators ctx before kind [] ds)
       (record { lighter = omega (arith, s.lighter); fewer = omega (arith, s.fewer) })
 
+-- the weight and the declarators of statements that are kept
+unfoldable pub kept_weight : Kept → ℕ
+kept_weight k = weight k.statement
+
+unfoldable pub kept_declarators : Kept → ℕ
+kept_declarators k = length (declarators_in k.statement)
+
 -- what a search leaves of a tree and of statements
 pub record Left (weights declarators statements : ℕ) (w : FromStatements) : Type 0 where
   pub lighter : size w.result.target + total kept_weight w.result.left ≤ weights
   pub fewer : total kept_declarators w.result.left + length w.trace ≡ declarators
   pub shorter : length w.result.left ≤ statements
-
--- what is left of an expression statement is pushed
-pushed_totals : (number : ℕ) (i : Initializer) (ks : List Kept)
-    → (total kept_weight (pushed number i ks) ≡ initializer_size i + total kept_weight ks)
-    × (total kept_declarators (pushed number i ks) ≡ total kept_declarators ks)
-    × (length (pushed number i ks) ≤ 1 + length ks)
-unfolding pushed total kept_weight kept_declarators weight declarators_in initializer_size
-pushed_totals number bare ks = (omega arith, refl, omega arith)
-pushed_totals number (given t) ks = (refl, omega arith, omega arith)
 
 module _ (ctx : Context) where
   stays : (ks : List Kept) (target : Tree) → Left (size target + total kept_weight ks) (total kept_declarators ks) (length ks) (ended target ks)
@@ -169,7 +191,7 @@ module _ (ctx : Context) where
       let c : length w.result.left ≡ length (d ∷ ds') = ap length l in
       let f : total declarator_size w.result.left ≡ total declarator_size (d ∷ ds') = ap (total declarator_size) l in
       record {
-        lighter = omega (arith, a, c, f, s.lighter, total-reverse declarator_size (d ∷ ds'), length_onto (d ∷ ds') []);
+        lighter = omega (arith, a, c, f, s.lighter, total_reverse declarator_size (d ∷ ds'), length_onto (d ∷ ds') []);
         fewer = omega (arith, b, c, s.fewer, length_onto (d ∷ ds') [], length-append w.trace []);
         shorter = omega arith;
       }
@@ -180,7 +202,7 @@ module _ (ctx : Context) where
       (substitute_from_declarators ctx before kind (non_scoped_literal_only ctx) (reverse ds) target)
   searched before kind ds target =
       let s = from-declarators ctx before kind (non_scoped_literal_only ctx) (reverse ds) target in
-      let m = total-reverse declarator_size ds in
+      let m = total_reverse declarator_size ds in
       let l = length_onto ds [] in
       record { lighter = omega (arith, s.lighter, m, l); fewer = omega (arith, s.fewer, l) }
 
@@ -245,57 +267,48 @@ module _ (ctx : Context) where
     pub fewer : total kept_declarators w.result + length w.trace ≡ declarators
     pub shorter : length w.result ≤ statements
 
-  module _ (merging : Bool) where
-    pub fold-statement : (number : ℕ) (ks : List Kept) (s : Statement)
-        → Kepts (weight s + total kept_weight ks) (length (declarators_in s) + total kept_declarators ks) (1 + length ks) (fold_statement merging ctx number ks s)
-    unfolding fold_statement pure ◌>>=◌ total kept_weight kept_declarators weight declarators_in
-    fold-statement number ks (declaration kind ds) =
-        let w = in_first_declarator ctx ks ds in
-        let f = in_first ks ds in
-        let l = leading-first merging w.result.target w.result.left in
-        let x = leading_declarator merging w.result.target w.result.left in
-        let v = substitute_within_declaration ctx (in_file_order x.result.left) kind x.result.target in
-        let n = within-declaration ctx (in_file_order x.result.left) kind x.result.target in
-        let u : length x.trace ≡ 0 = ap length l.merges.unfolded in
-        record {
-          lighter = omega (arith, f.lighter, l.merges.lighter, l.many, n.lighter);
-          fewer = omega (arith, f.fewer, l.merges.same, l.many, n.fewer, u, length-append w.trace (x.trace ++ (v.trace ++ [])), length-append x.trace (v.trace ++ []), length-append v.trace []);
-          shorter = omega (arith, f.shorter, l.merges.long);
-        }
-    fold-statement number ks (expression t) =
-        let w = substitute_in_statement ctx ks t in
-        let l = in_statement ks t in
-        let x = leading merging true w.result.target w.result.left in
-        let m = leading-merges merging true w.result.target w.result.left in
-        let u : length x.trace ≡ 0 = ap length m.unfolded in
-        let p = pushed_totals number x.result.target x.result.left in
-        record {
-          lighter = omega (arith, l.lighter, m.lighter, p.0);
-          fewer = omega (arith, l.fewer, m.same, p.1, u, length-append w.trace (x.trace ++ []), length-append x.trace []);
-          shorter = omega (arith, l.shorter, m.long, p.2);
-        }
-    fold-statement number ks other = record { lighter = omega arith; fewer = omega arith; shorter = omega arith }
+  pub fold-statement : (number : ℕ) (ks : List Kept) (s : Statement)
+      → Kepts (weight s + total kept_weight ks) (length (declarators_in s) + total kept_declarators ks) (1 + length ks) (fold_statement ctx number ks s)
+  unfolding fold_statement pure ◌>>=◌ total kept_weight kept_declarators weight declarators_in
+  fold-statement number ks (declaration kind ds) =
+      let w = in_first_declarator ctx ks ds in
+      let f = in_first ks ds in
+      let v = substitute_within_declaration ctx (in_file_order w.result.left) kind w.result.target in
+      let n = within-declaration ctx (in_file_order w.result.left) kind w.result.target in
+      record {
+        lighter = omega (arith, f.lighter, n.lighter);
+        fewer = omega (arith, f.fewer, n.fewer, length-append w.trace (v.trace ++ []), length-append v.trace []);
+        shorter = omega (arith, f.shorter);
+      }
+  fold-statement number ks (expression t) =
+      let l = in_statement ks t in
+      record {
+        lighter = omega (arith, l.lighter);
+        fewer = omega (arith, l.fewer, length-append (substitute_in_statement ctx ks t).trace []);
+        shorter = omega (arith, l.shorter);
+      }
+  fold-statement number ks other = record { lighter = omega arith; fewer = omega arith; shorter = omega arith }
 
-    fold-statements : (number : ℕ) (ks : List Kept) (ss : List Statement)
-        → Kepts (total weight ss + total kept_weight ks) (total (λ s. length (declarators_in s)) ss + total kept_declarators ks) (length ss + length ks)
-        (fold_statements merging ctx number ks ss)
-    unfolding fold_statements pure ◌>>=◌ total
-    fold-statements number ks [] =
-        record {
-          lighter = omega (arith, total-reverse kept_weight ks);
-          fewer = omega (arith, total-reverse kept_declarators ks);
-          shorter = omega (arith, length_onto ks []);
-        }
-    fold-statements number ks (s ∷ ss) =
-        let w = fold_statement merging ctx number ks s in
-        let f = fold-statement number ks s in
-        let v = fold_statements merging ctx (number + 1) w.result ss in
-        let r = fold-statements (number + 1) w.result ss in
-        record {
-          lighter = omega (arith, f.lighter, r.lighter);
-          fewer = omega (arith, f.fewer, r.fewer, length-append w.trace v.trace);
-          shorter = omega (arith, f.shorter, r.shorter);
-        }
+  fold-statements : (number : ℕ) (ks : List Kept) (ss : List Statement)
+      → Kepts (total weight ss + total kept_weight ks) (total (λ s. length (declarators_in s)) ss + total kept_declarators ks) (length ss + length ks)
+      (fold_statements ctx number ks ss)
+  unfolding fold_statements pure ◌>>=◌ total
+  fold-statements number ks [] =
+      record {
+        lighter = omega (arith, total_reverse kept_weight ks);
+        fewer = omega (arith, total_reverse kept_declarators ks);
+        shorter = omega (arith, length_onto ks []);
+      }
+  fold-statements number ks (s ∷ ss) =
+      let w = fold_statement ctx number ks s in
+      let f = fold-statement number ks s in
+      let v = fold_statements ctx (number + 1) w.result ss in
+      let r = fold-statements (number + 1) w.result ss in
+      record {
+        lighter = omega (arith, f.lighter, r.lighter);
+        fewer = omega (arith, f.fewer, r.fewer, length-append w.trace v.trace);
+        shorter = omega (arith, f.shorter, r.shorter);
+      }
 
 -- the trees of statements
 initializer-tree : (i : Initializer) (rest : Trees) → sizes (initializer_tree i rest) ≡ initializer_size i + sizes rest
@@ -335,38 +348,38 @@ length-map : {A B : Type 0} (g : A → B) (xs : List A) → length (map g xs) �
 length-map g [] = refl
 length-map g (x ∷ xs) = omega (arith, length-map g xs)
 
-module _ (merging : Bool) (f : File) where
+module _ (f : File) where
   -- the result's statements
   abbrev result : List Statement
-  result = (fold_file_by merging f).file.statements
+  result = (fold_file f).file.statements
 
-  folded-kepts : Kepts (context_of f) (total weight f.statements) (total (λ s. length (declarators_in s)) f.statements) (length f.statements)
-      (fold_statements merging (context_of f) 0 [] f.statements)
+  folded_kepts : Kepts (context_of f) (total weight f.statements) (total (λ s. length (declarators_in s)) f.statements) (length f.statements)
+      (fold_statements (context_of f) 0 [] f.statements)
   unfolding total
-  folded-kepts =
-      let k = fold-statements (context_of f) merging 0 [] f.statements in
+  folded_kepts =
+      let k = fold-statements (context_of f) 0 [] f.statements in
       record { lighter = omega (arith, k.lighter); fewer = omega (arith, k.fewer); shorter = omega (arith, k.shorter) }
 
   -- Nodes and declarators together never grow: M' + D' ≤ M + D.
   pub nodes_and_declarators : sizes (all_trees result) + length (all_declarators result) ≤ sizes (all_trees f.statements) + length (all_declarators f.statements)
-  unfolding fold_file_by folded_file with_statements kept_weight
+  unfolding fold_file folded_file with_statements kept_weight
   nodes_and_declarators =
-      let w = fold_statements merging (context_of f) 0 [] f.statements in
-      omega (arith, weights result, weights f.statements, total-map weight statement_of w.result, folded-kepts.lighter)
+      let w = fold_statements (context_of f) 0 [] f.statements in
+      omega (arith, weights result, weights f.statements, total-map weight statement_of w.result, folded_kepts.lighter)
 
   -- Every fold takes one declarator: D' + folds = D.
-  pub declarators-folded : length (all_declarators result) + length (fold_file_by merging f).trace ≡ length (all_declarators f.statements)
-  unfolding fold_file_by folded_file with_statements kept_declarators
+  pub declarators-folded : length (all_declarators result) + length (fold_file f).trace ≡ length (all_declarators f.statements)
+  unfolding fold_file folded_file with_statements kept_declarators
   declarators-folded =
-      let w = fold_statements merging (context_of f) 0 [] f.statements in
-      omega (arith, declarators result, declarators f.statements, total-map (λ s. length (declarators_in s)) statement_of w.result, folded-kepts.fewer)
+      let w = fold_statements (context_of f) 0 [] f.statements in
+      omega (arith, declarators result, declarators f.statements, total-map (λ s. length (declarators_in s)) statement_of w.result, folded_kepts.fewer)
 
   -- T' ≤ T
   pub statements-kept : length result ≤ length f.statements
-  unfolding fold_file_by folded_file with_statements
-  statements-kept = omega (arith, length-map statement_of (fold_statements merging (context_of f) 0 [] f.statements).result, folded-kepts.shorter)
+  unfolding fold_file folded_file with_statements
+  statements-kept = omega (arith, length-map statement_of (fold_statements (context_of f) 0 [] f.statements).result, folded_kepts.shorter)
 
   -- "Facts, scopes, frames and options are copied to the result."
-  pub context_kept : context_of (fold_file_by merging f).file ≡ context_of f
-  unfolding context_of fold_file_by folded_file with_statements
+  pub context_kept : context_of (fold_file f).file ≡ context_of f
+  unfolding context_of fold_file folded_file with_statements
   context_kept = refl

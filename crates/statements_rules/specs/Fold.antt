@@ -1,9 +1,9 @@
 -- The fold of a file, and of its bytes.
-use Rattle.std.specs.Prelude.{ℕ, Bool, true, false, cond, List, [], map, length, eqb}
+use Rattle.std.specs.Prelude.{ℕ, cond, List, [], map, length, eqb}
 use Rattle.records.specs.File.{Statement, File, read, print}
 use Rattle.records.specs.Refusal.{refusal}
 use Rattle.walk_rules.specs.Context.{context_of}
-use Rattle.statements_rules.specs.Trace.{Fold, Merge, Traced}
+use Rattle.statements_rules.specs.Trace.{Fold, Traced}
 use Rattle.statements_rules.specs.Statements.{Kept, statement_of, fold_statements}
 
 -- "Facts, scopes, frames and options are copied to the result."
@@ -18,11 +18,10 @@ with_statements f ss = record {
   statements = ss;
 }
 
--- the file that is left, the folds in order, the merges in order, the numbers that its statements had, and the looks
+-- the file that is left, the folds in order, the numbers that its statements had, and the looks
 pub record Folded : Type 0 where
   pub file : File
   pub trace : List Fold
-  pub merges : List Merge
   pub kept : List ℕ
   pub looks : ℕ
 
@@ -30,21 +29,12 @@ unfoldable pub folded_file : File → Traced (List Kept) → Folded
 folded_file f w = record {
   file = with_statements f (map statement_of w.result);
   trace = w.trace;
-  merges = w.merges;
   kept = map (λ k. k.number) w.result;
   looks = w.looks;
 }
 
--- the fold of a file, with or without merges
-unfoldable pub fold_file_by : Bool → File → Folded
-fold_file_by merging f = folded_file f (fold_statements merging (context_of f) 0 [] f.statements)
-
--- the fold; and the base fold, which "The call of (a)" repeats
-abbrev pub fold_file : File → Folded
-fold_file f = fold_file_by true f
-
-abbrev pub base_fold_file : File → Folded
-base_fold_file f = fold_file_by false f
+unfoldable pub fold_file : File → Folded
+fold_file f = folded_file f (fold_statements (context_of f) 0 [] f.statements)
 
 -- What is returned: the number of the table's row, 0 if none holds (document 01 leaves that number free); the result's
 -- length, the declarators folded; and the result.
@@ -63,12 +53,5 @@ unfoldable pub accepted : Folded → Returned
 accepted w = record { number = 0; result_length = length (print w.file); folds = length w.trace; result = print w.file }
 
 -- the fold of some bytes, with so much room for the result
-unfoldable pub fold_bytes_by : Bool → List ℕ → ℕ → Returned
-fold_bytes_by merging bs room =
-    cond (eqb (refusal bs room) 0) (accepted (fold_file_by merging (read bs))) (refused (refusal bs room))
-
-abbrev pub fold_bytes : List ℕ → ℕ → Returned
-fold_bytes bs room = fold_bytes_by true bs room
-
-abbrev pub base_fold_bytes : List ℕ → ℕ → Returned
-base_fold_bytes bs room = fold_bytes_by false bs room
+unfoldable pub fold_bytes : List ℕ → ℕ → Returned
+fold_bytes bs room = cond (eqb (refusal bs room) 0) (accepted (fold_file (read bs))) (refused (refusal bs room))

@@ -1,8 +1,6 @@
--- The fold of a file: the search through declarators and statements, the merges, and what a file becomes by them.
+-- The fold of a file: the search through declarators and statements, and what a file becomes by it.
 pub mod Trace
-pub mod Kept
 pub mod Declarators
-pub mod Merge
 pub mod Statements
 pub mod Fold
 pub mod Searches

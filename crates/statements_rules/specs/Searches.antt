@@ -1,14 +1,14 @@
 -- What bounds the looks of a fold, of any file: "Show that looks never exceed (T + 2D) × 3,000" (document 02, (b)).
-use Rattle.std.specs.Prelude.{ℕ, ◌+◌, ◌≤◌, Bool, List, [], ◌∷◌, length}
+use Rattle.std.specs.Prelude.{ℕ, ◌+◌, ◌≤◌, List, [], ◌∷◌, length}
 use Rattle.records.specs.Tree.{sizes}
 use Rattle.records.specs.File.{File, all_trees, all_declarators}
 use Rattle.walk_rules.specs.Context.{context_of}
 use Rattle.statements_rules.specs.Statements.{fold_statements}
-use Rattle.statements_rules.specs.Fold.{fold_file_by}
+use Rattle.statements_rules.specs.Fold.{fold_file}
 
--- for each search of the fold, with or without merges, how many nodes its tree had
-abbrev pub searched_in : Bool → File → List ℕ
-searched_in merging f = (fold_statements merging (context_of f) 0 [] f.statements).searched_nodes
+-- for each search of the fold, how many nodes its tree had
+abbrev pub searched_in : File → List ℕ
+searched_in f = (fold_statements (context_of f) 0 [] f.statements).searched_nodes
 
 -- no number of a list is above this one
 unfoldable pub AtMost : ℕ → List ℕ → Type 0
@@ -29,10 +29,10 @@ D f = length (all_declarators f.statements)
 abbrev pub M : File → ℕ
 M f = sizes (all_trees f.statements)
 
-pub record SearchLaws (merging : Bool) (f : File) : Type 0 where
+pub record SearchLaws (f : File) : Type 0 where
   -- each tree is searched at most once, and at most once more after each fold into it
-  pub searches : length (searched_in merging f) ≤ T f + D f + length (fold_file_by merging f).trace
+  pub searches : length (searched_in f) ≤ T f + D f + length (fold_file f).trace
   -- nodes and declarators together never grow
-  pub nodes : AtMost (M f + D f) (searched_in merging f)
+  pub nodes : AtMost (M f + D f) (searched_in f)
   -- a search has no more looks than its tree has nodes
-  pub looks : (fold_file_by merging f).looks ≤ sum (searched_in merging f)
+  pub looks : (fold_file f).looks ≤ sum (searched_in f)

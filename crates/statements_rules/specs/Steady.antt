@@ -2,7 +2,7 @@
 use Rattle.std.specs.Prelude.{ℕ, zero, suc, ◌+◌, Bool, true, false, cond, ◌&&◌, List, [], ◌∷◌, length, eqb}
 use Rattle.records.specs.Record.{header_of}
 use Rattle.records.specs.Refusal.{refusal}
-use Rattle.statements_rules.specs.Fold.{Returned, base_fold_bytes}
+use Rattle.statements_rules.specs.Fold.{Returned, fold_bytes}
 
 -- whether two lists of bytes are the same
 unfoldable pub same_bytes : List ℕ → List ℕ → Bool
@@ -42,7 +42,7 @@ run_before w v = record {
 unfoldable pub repeat_fold : ℕ → List ℕ → ℕ → Repeated
 repeat_fold zero bs room = at_rest bs
 repeat_fold (suc most) bs room =
-    let w = base_fold_bytes bs room in
+    let w = fold_bytes bs room in
     run_before w (cond (same_bytes w.result bs) (at_rest w.result) (repeat_fold most w.result room))
 
 -- The repeat, of some bytes, with so much room for each result. "this takes at most D + 2 runs": so many are enough for the

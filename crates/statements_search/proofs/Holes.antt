@@ -11,7 +11,7 @@ use Rattle.records.specs.Tree.{Node, Tree, Trees, node, none, more, count, size,
 use Rattle.records.proofs.Tests.{and_right, clash}
 use Rattle.records_table.specs.Table.{work_bytes}
 use Rattle.records_table.specs.Laid.{laid, laids}
-use Rattle.records_table.proofs.Laid.{laid-length, laid_split, laids_split, work-length}
+use Rattle.records_table.proofs.Laid.{laid-length, laid_split, laids_split, work_length}
 use Rattle.walk_rules.specs.Substitute.{is_specific_id}
 use Rattle.walk_arms.specs.Answers.{put_at, put_in, is_name_at, is_name_in}
 
@@ -50,7 +50,7 @@ below n kids k (m, between, after, h) = (
   record {
     holds = λ x. ap (λ l. work_bytes (record_of n (count kids)) ++ l) (h.holds x) ∙ sym (append_assoc (work_bytes (record_of n (count kids))) between (work_bytes (record_of m 0) ++ (after ++ x)));
     becomes = λ put x. rw (h.many put, h.becomes put x) (sym (append_assoc (work_bytes (record_of n (count kids))) between (laid (put m) (after ++ x))));
-    stands = omega (arith, length-append (work_bytes (record_of n (count kids))) between, work-length (record_of n (count kids)), h.stands);
+    stands = omega (arith, length-append (work_bytes (record_of n (count kids))) between, work_length (record_of n (count kids)), h.stands);
   },
 )
 

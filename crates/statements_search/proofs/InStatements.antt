@@ -74,9 +74,9 @@ no_length [] e = refl
 no_length (d ∷ ds) e = absurd (omega arith)
 
 -- the names that were folded, and those that a search has folded behind them
-names-further : (records : List ℕ) (many folds : ℕ) (r : Searched) (trace rest : List Fold) → folded_names trace ≡ names_from records r.declarators_kept r.folds → many ≡ r.declarators_kept + r.folds
+names_further : (records : List ℕ) (many folds : ℕ) (r : Searched) (trace rest : List Fold) → folded_names trace ≡ names_from records r.declarators_kept r.folds → many ≡ r.declarators_kept + r.folds
     → names_from records r.declarators_kept (folds + r.folds) ++ folded_names rest ≡ names_from records many folds ++ folded_names (trace ++ rest)
-names-further records many folds r trace rest e n =
+names_further records many folds r trace rest e n =
     ap (λ l. l ++ folded_names rest) (names_split records r.declarators_kept folds r.folds)
     ∙ append_assoc (names_from records (r.declarators_kept + r.folds) folds) (names_from records r.declarators_kept r.folds) (folded_names rest)
     ∙ ap₂ (λ (k : ℕ) (l : List ℕ). names_from records k folds ++ (l ++ folded_names rest)) (sym n) (sym e)
@@ -118,9 +118,9 @@ module _ (ctx : Context) (number : ℕ) (kind : DeclarationKind) (ds : List Decl
       (rw (u, a), rw (u, a), rw (u, a))
 
   -- its own looks are among those of the search
-  looks-among : is_using kind ≡ false → from_last.looks ≤ search.looks
+  looks_among : is_using kind ≡ false → from_last.looks ≤ search.looks
   unfolding from_statements from_statement ◌>>=◌
-  looks-among u = rw u (omega arith)
+  looks_among u = rw u (omega arith)
 
   -- else it ends there
   ends-here : is_using kind ≡ false → 0 < length from_last.result.left
@@ -310,7 +310,7 @@ module _ (ctx : Context) {table table' records starts statements : List ℕ} {co
   seen g (declared number kind ds ks d) p e =
       let l : low ≡ many - length ds = e ∙ ap (λ (x : StatementRecord). many - x.declarators) d in
       let f = (found number kind ds ks g.kept l).1 in
-      omega (arith, g.looked, f.looks, looks-among ctx number kind ds ks target (no_using kind ds d p))
+      omega (arith, g.looked, f.looks, looks_among ctx number kind ds ks target (no_using kind ds d p))
 
   -- all its declarators are folded: the search goes on with the statements before
   pub drops : {folds looks : ℕ} {w : FromStatements} {s : StatementRecord} {ks : List Kept}
@@ -333,7 +333,7 @@ module _ (ctx : Context) {table table' records starts statements : List ℕ} {co
           kept = keeps-others g.kept (row number kind ds ks low g.kept l).0 f.1 z;
           result = sym o.0 ∙ g.result;
           folded = omega (arith, ap length o.1, length-append v.trace t, f.1.folded, g.folded);
-          listed = names-further records many folds r v.trace t f.1.listed (omega (arith, m)) ∙ ap (λ x. names_from records many folds ++ folded_names x) (sym o.1) ∙ g.listed;
+          listed = names_further records many folds r v.trace t f.1.listed (omega (arith, m)) ∙ ap (λ x. names_from records many folds ++ folded_names x) (sym o.1) ∙ g.listed;
           looked = omega (arith, o.2, f.1.looks, g.looked);
         },
       )
@@ -356,7 +356,7 @@ module _ (ctx : Context) {table table' records starts statements : List ℕ} {co
       let o' = subst (λ (y : StatementRecord). Overwrites statements statements' (4 * (count - 1)) (statement_bytes (record { kind = y.kind; zero = 0; declarators = r.declarators_kept - low }))) d o in
       let m = (fewer g.kept (declared number kind ds ks d) e).1 in
       let listed =
-      names-further records many folds r v.trace [] f.1.listed (omega (arith, m))
+      names_further records many folds r v.trace [] f.1.listed (omega (arith, m))
       ∙ ap (λ y. names_from records many folds ++ folded_names y) (append-nil v.trace ∙ sym x.1)
       ∙ g.listed in (
         f.0,

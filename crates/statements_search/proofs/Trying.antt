@@ -13,7 +13,7 @@ use Rattle.records.specs.declared.layout.NodeId.{NodeId}
 use Rattle.records.proofs.Tests.{both, clash}
 use Rattle.records_table.specs.Table.{work_bytes}
 use Rattle.records_table.specs.Laid.{laid, laids, At, TreeAt, Stands}
-use Rattle.records_table.proofs.Laid.{laid-length, laid_split, work-length}
+use Rattle.records_table.proofs.Laid.{laid-length, laid_split, work_length}
 use Rattle.walk_rules.specs.Context.{Context}
 use Rattle.walk_rules.specs.Looks.{looks_in_expression}
 use Rattle.walk_rules.specs.Substitute.{Answer as RuleAnswer, replaced, substitute_in_expression}
@@ -164,7 +164,7 @@ module _ (ctx : Context) (literal_only : Bool) (table table' : List ℕ) (d : De
       starts = x.begins;
       searched = omega (arith, x.starts);
       found = sym f.stands;
-      ends = omega (arith, f.stands, x.ends, f.same, laid-length held [], ap length (f.holds []), length-append between (work_bytes (record_of name 0) ++ (after ++ [])), length-append (work_bytes (record_of name 0)) (after ++ []), work-length (record_of name 0), length-append after []);
+      ends = omega (arith, f.stands, x.ends, f.same, laid-length held [], ap length (f.holds []), length-append between (work_bytes (record_of name 0) ++ (after ++ [])), length-append (work_bytes (record_of name 0)) (after ++ []), work_length (record_of name 0), length-append after []);
     }
 
     pub holds-name : CanTry table d from tree.0 used → eqb d.present 1 ≡ true → ((pre : List ℕ) (t : Tree) (rest : List ℕ) → TreeAt table from t pre rest → Describes s t) → Searches ctx s table table' tree.0 w → HoldsName table' from tree.0 place.0 used

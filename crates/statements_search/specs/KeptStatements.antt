@@ -19,18 +19,6 @@ abbrev pub tables : List ℕ → List ℕ → List ℕ → List ℕ → Tables
 tables nodes declarators starts statements =
     record { nodes = nodes; declarators = declarators; starts = starts; statements = statements }
 
--- the tables without the statements; and with them
-pub record DeclaratorTables : Type 0 where
-  pub nodes : List ℕ
-  pub declarators : List ℕ
-  pub starts : List ℕ
-
-abbrev pub declarator_tables : List ℕ → List ℕ → List ℕ → DeclaratorTables
-declarator_tables nodes declarators starts = record { nodes = nodes; declarators = declarators; starts = starts }
-
-abbrev pub with_statement_table : DeclaratorTables → List ℕ → Tables
-with_statement_table t statements = tables t.nodes t.declarators t.starts statements
-
 -- the trees of a statement, before other bytes; its nodes; whether no name in it has children
 unfoldable pub laid_statement : Statement → List ℕ → List ℕ
 laid_statement (declaration kind ds) rest = laid_declarators (reverse ds) rest

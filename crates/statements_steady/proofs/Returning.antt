@@ -41,8 +41,8 @@ laws file room = record {
   accepted = λ e. (reached file room e).accepted;
 }
 
-pub with-laws : {A B : Type 0} (file : List ℕ) (room : ℕ) → A × B → A × (B × SteadyLaws file room)
-with-laws file room p = (p.0, (p.1, laws file room))
+pub with_laws : {A B : Type 0} (file : List ℕ) (room : ℕ) → A × B → A × (B × SteadyLaws file room)
+with_laws file room p = (p.0, (p.1, laws file room))
 
 -- no file within the limits wants more room
 pub room_limit : (bs : List ℕ) → HeaderPasses bs (header_of bs) → room_wanted bs ≤ max_room

@@ -11,7 +11,7 @@ use Rattle.records.specs.Record.{header_of}
 use Rattle.records.specs.Refusal.{refusal, room_wanted}
 use Rattle.records_refusal.specs.Passing.{HeaderPasses}
 use Rattle.records_laws.proofs.Accepted.{accepted as rows-passed}
-use Rattle.statements_rules.specs.Fold.{Returned, base_fold_bytes}
+use Rattle.statements_rules.specs.Fold.{Returned, fold_bytes}
 use Rattle.statements_rules.specs.Steady.{same_bytes, Repeated, at_rest, run_before, steady_bytes}
 use Rattle.theory_demands.proofs.Laws.{accepted-again, result-measured, room_most, declarators-taken}
 use Rattle.theory_steady.proofs.Repeat.{reached, runs-most, by_runs}
@@ -31,7 +31,7 @@ accepted-passes bs room e =
     record { is = refl; script = rows.is_script; version = rows.version; limits = rows.limits; measured = rows.measured }
 
 -- one run, by what the core did and the comparison of its result with the bytes
-pub run_is : {bs output output' : List ℕ} {room : ℕ} {r : Outcome} {steady : Bool} → FoldsBytes false bs room output output' r → steady ≡ same_bytes (take r.length output') bs
+pub run_is : {bs output output' : List ℕ} {room : ℕ} {r : Outcome} {steady : Bool} → FoldsBytes bs room output output' r → steady ≡ same_bytes (take r.length output') bs
     → record { number = r.number; length = r.length; folds = r.folds; steady = steady } ≡ run_of bs room
 run_is w s = rw (s, w.result, w.number, w.measured, w.folds) refl
 
@@ -68,15 +68,15 @@ module _ (file : List ℕ) (room : ℕ) where
       }
 
   run_on : {bs : List ℕ} {folds runs : ℕ} → Repeating file room bs folds runs false
-      → Repeating file room (base_fold_bytes bs room).result (folds + (base_fold_bytes bs room).folds) (runs + 1) (same_bytes (base_fold_bytes bs room).result bs)
+      → Repeating file room (fold_bytes bs room).result (folds + (fold_bytes bs room).folds) (runs + 1) (same_bytes (fold_bytes bs room).result bs)
   unfolding room_wanted
   run_on {bs = bs} {folds = folds} {runs = runs} h =
-      let w = base_fold_bytes bs room in
+      let w = fold_bytes bs room in
       let e = h.accepted in
       record {
-        accepted = accepted-again false bs room e;
-        lower = let x = room_most false bs room e in let y = h.lower in omega (arith, x, y);
-        taken = let x = declarators-taken false bs room e in let y = h.taken in omega (arith, x, y);
+        accepted = accepted-again bs room e;
+        lower = let x = room_most bs room e in let y = h.lower in omega (arith, x, y);
+        taken = let x = declarators-taken bs room e in let y = h.taken in omega (arith, x, y);
         rest = h.rest ∙ ap (after folds runs) (by_runs bs room e) ∙ after_run folds runs w (cond (same_bytes w.result bs) (at_rest w.result) (steady_bytes w.result room));
       }
 
@@ -96,11 +96,11 @@ pub record Looping (file : List ℕ) (room : ℕ) (current₀ next₀ current ne
   pub state : Repeating file room (take l next) folds runs steady
 
 -- a run's result, laid down
-laid-result : (bs : List ℕ) (room : ℕ) (next : List ℕ) {next' : List ℕ} → refusal bs room ≡ 0 → next' ≡ laid_over (base_fold_bytes bs room) next
-    → ((base_fold_bytes bs room).result_length ≤ length next') × (take (base_fold_bytes bs room).result_length next' ≡ (base_fold_bytes bs room).result)
+laid-result : (bs : List ℕ) (room : ℕ) (next : List ℕ) {next' : List ℕ} → refusal bs room ≡ 0 → next' ≡ laid_over (fold_bytes bs room) next
+    → ((fold_bytes bs room).result_length ≤ length next') × (take (fold_bytes bs room).result_length next' ≡ (fold_bytes bs room).result)
 laid-result bs room next e w =
-    let result = (base_fold_bytes bs room).result in
-    let m = result-measured false bs room e in
+    let result = (fold_bytes bs room).result in
+    let m = result-measured bs room e in
     let many = ap length w ∙ length-append result (drop (length result) next) in
     (omega (arith, m, many), rw (m, w) (take-append_seam result (drop (length result) next)))
 
@@ -116,12 +116,12 @@ copied next current l h e =
 
 module _ {file : List ℕ} {room : ℕ} where
   -- the first run
-  pub first_run : (current next : List ℕ) {next' : List ℕ} {r : Run} → r ≡ run_of file room → next' ≡ laid_over (base_fold_bytes file room) next → r.number ≡ 0
+  pub first_run : (current next : List ℕ) {next' : List ℕ} {r : Run} → r ≡ run_of file room → next' ≡ laid_over (fold_bytes file room) next → r.number ≡ 0
       → Looping file room current next' current next' r.length r.folds 1 r.steady
   first_run current next {next' = next'} er en z =
-      let e : refusal file room ≡ 0 = sym (number_is false file room) ∙ sym (ap (λ (x : Run). x.number) er) ∙ z in
+      let e : refusal file room ≡ 0 = sym (number_is file room) ∙ sym (ap (λ (x : Run). x.number) er) ∙ z in
       let (l, t) = laid-result file room next e en in
-      let zero : 0 + (base_fold_bytes file room).folds ≡ (base_fold_bytes file room).folds = omega arith in
+      let zero : 0 + (fold_bytes file room).folds ≡ (fold_bytes file room).folds = omega arith in
       let s = run_on file room (begins file room e) in
       rw er
       (record {
@@ -129,7 +129,7 @@ module _ {file : List ℕ} {room : ℕ} where
         same-current = refl;
         same_next = refl;
         within = l;
-        state = rw t (subst (λ k. Repeating file room (base_fold_bytes file room).result k 1 (same_bytes (base_fold_bytes file room).result file)) zero s);
+        state = rw t (subst (λ k. Repeating file room (fold_bytes file room).result k 1 (same_bytes (fold_bytes file room).result file)) zero s);
       })
 
   module _ {current₀ next₀ current next : List ℕ} {l folds runs : ℕ} {steady : Bool} (h : Looping file room current₀ next₀ current next l folds runs steady) where
@@ -153,10 +153,10 @@ module _ {file : List ℕ} {room : ℕ} where
         er' : r ≡ run_of (take l next) room
         er' = er ∙ ap (λ (bs : List ℕ). run_of bs room) t
 
-        pub next-run : {current' next' : List ℕ} → next' ≡ laid_over (base_fold_bytes bs room) next → length current' ≡ length current → length next' ≡ length next
+        pub next-run : {current' next' : List ℕ} → next' ≡ laid_over (fold_bytes bs room) next → length current' ≡ length current → length next' ≡ length next
             → Looping file room current₀ next₀ current' next' r.length (folds + r.folds) (runs + 1) r.steady
         next-run en lc ln =
-            let (k, q) = laid-result (take l next) room next h.state.accepted (en ∙ ap (λ (bs : List ℕ). laid_over (base_fold_bytes bs room) next) t) in
+            let (k, q) = laid-result (take l next) room next h.state.accepted (en ∙ ap (λ (bs : List ℕ). laid_over (fold_bytes bs room) next) t) in
             rw er'
             (record {
               file-accepted = h.file-accepted;

@@ -1,9 +1,9 @@
-// One run of a repeat: the base fold of some bytes, without merges, and whether it left them as they were.
+// One run of a repeat: the fold of some bytes, and whether it left them as they were.
 ghost use Rattle.std.specs.Prelude.{◌≡◌, ◌≤◌, length};
 ghost use Rattle.records.specs.Record.{header_of};
 ghost use Rattle.records.specs.Refusal.{room_wanted};
 ghost use Rattle.records_refusal.specs.Passing.{HeaderPasses};
-ghost use Rattle.statements_rules.specs.Fold.{base_fold_bytes};
+ghost use Rattle.statements_rules.specs.Fold.{fold_bytes};
 ghost use Rattle.statements_fold.specs.Answer.{laid_over};
 ghost use Rattle.statements_steady.specs.Run.{run_of};
 
@@ -22,17 +22,17 @@ pub struct Run {
     pub steady: bool,
 }
 
-// The base fold of `file`, with so much room for row 11, laid down at the start of `result`.
+// The fold of `file`, with so much room for row 11, laid down at the start of `result`.
 pub(crate) fn fold_once(file: &[u8], room: usize, res: &mut [u8]) -> Run
     requires header { HeaderPasses file.now (header_of file.now) }
     requires res { room_wanted file.now ≤ length res.old }
     ensures run { result ≡ run_of file.now room }
-    ensures res { res.new ≡ laid_over (base_fold_bytes file.now room) res.old }
+    ensures res { res.new ≡ laid_over (fold_bytes file.now room) res.old }
 {
     let h = header_of(file);
     let mut folded = [0u16; MAX_DECLARATORS as usize];
     let mut kept = [0u16; MAX_STATEMENTS as usize];
-    let r = fold_records(file, h, room, res, &mut folded, &mut kept, false);
+    let r = fold_records(file, h, room, res, &mut folded, &mut kept);
     let length = r.length;
     let steady = same_bytes(&res[..length], file);
     Run {

@@ -1,7 +1,7 @@
--- The result of an accepted file, with or without merges, is accepted with the same room, row by row. Assumes nothing.
+-- The result of an accepted file is accepted with the same room, row by row. Assumes nothing.
 use Prim.Native.Nat.{ℕ, ◌+◌, ◌≤◌, ◌<◌}
 use native.Mathlib.Omega.{arith}
-use mathlib.Core.Bool.{Bool, true, false}
+use mathlib.Core.Bool.{true, false}
 use mathlib.Core.List.{List, []}
 use mathlib.Core.Path.{◌≡◌, refl, sym, ap, ◌∙◌, subst}
 use lib.ListN.{length, get_or}
@@ -21,27 +21,29 @@ use Rattle.records.specs.File.{File, Declarator, one, initializers, names_of, sc
 use Rattle.records.specs.Refusal.{room_wanted, refusal}
 use Rattle.records.specs.declared.layout.Header.{Header}
 use Rattle.walk_rules.specs.Context.{context_of, facts_of as factsIn}
-use Rattle.statements_rules.specs.Fold.{with_statements, folded_file, fold_file_by, accepted, fold_bytes_by}
+use Rattle.statements_rules.specs.Fold.{with_statements, folded_file, fold_file, accepted, fold_bytes}
 use Rattle.records_laws.proofs.Preorder.{closed_preorders-alone}
 use Rattle.records_laws.proofs.Accepted.{Accepted, accepted as rows-passed, accepts, has_length, good_script}
 use Rattle.records_laws.proofs.PrintedStatements.{declarator_records-length}
 use Rattle.records_laws.proofs.PrintedFile.{printed_header, printed_names, printed_scopes, printed_frames, printed_nodes, printed_declarators, printed_statements, printed_forest, printed_length}
 use Rattle.records_laws.proofs.PrintedTests.{printed_script, printed_version, printed_measured, statements_good, declarators_summed, trees-counted}
 use Rattle.records_laws.proofs.ReadFile.{read-declarators, read_header}
+use Rattle.theory_preservation.proofs.Uses.{reads, targets}
 use Rattle.theory_preservation.proofs.WellMade.{all_well_made}
 use Rattle.theory_preservation.proofs.Totals.{trees, program-uses, program-sums, program-declarators}
+use Rattle.theory_preservation.proofs.Moves.{file-moves}
 use Rattle.theory_preservation.proofs.Fit.{misfit}
 use Rattle.theory_demands.proofs.Rows.{few-names, good_counts_lem, file-fits, names-accepted}
-use Rattle.theory_demands.proofs.Kept.{file-names, file-fit, file-reads, file-targets}
+use Rattle.theory_demands.proofs.Growth.{reads_light, targets_light, moves-names, moves-lighter, moves-fit}
 use Rattle.theory_demands.proofs.Limits.{Lower, limits-some, limits-lower, header_lower, room-lower}
 use Rattle.theory_demands.proofs.Tests.{row-fit, row_good, misnamed, all_named, named-all, declared-once, counts-less, every-each}
 
-module _ (merging : Bool) (bs : List ℕ) (room : ℕ) (a : Accepted bs room) where
+module _ (bs : List ℕ) (room : ℕ) (a : Accepted bs room) where
   abbrev pub f : File
   f = read bs
 
   abbrev pub g : File
-  g = (fold_file_by merging f).file
+  g = (fold_file f).file
 
   abbrev row : Trees
   row = all_trees g.statements
@@ -51,15 +53,15 @@ module _ (merging : Bool) (bs : List ℕ) (room : ℕ) (a : Accepted bs room) wh
 
   -- the facts are copied
   pub same_names : g.names ≡ names_of bs
-  unfolding fold_file_by folded_file with_statements read
+  unfolding fold_file folded_file with_statements read
   same_names = refl
 
   pub same-scopes : g.scopes ≡ scopes_of bs
-  unfolding fold_file_by folded_file with_statements read
+  unfolding fold_file folded_file with_statements read
   same-scopes = refl
 
   pub same-frames : g.frames ≡ frames_of bs
-  unfolding fold_file_by folded_file with_statements read
+  unfolding fold_file folded_file with_statements read
   same-frames = refl
 
   -- rows 3 and 11
@@ -71,7 +73,7 @@ module _ (merging : Bool) (bs : List ℕ) (room : ℕ) (a : Accepted bs room) wh
       omega (arith, x, same)
 
   pub lower : Lower (header_of bs) (header_for g)
-  lower = subst (λ h. Lower h (header_for g)) (read_header bs room a) (header_lower merging f some-statements)
+  lower = subst (λ h. Lower h (header_for g)) (read_header bs room a) (header_lower f some-statements)
 
   limits : outside_limits (header_of (print g)) ≡ false
   limits = rw (printed_header g) (limits-lower (header_of bs) (header_for g) lower a.limits)
@@ -92,7 +94,7 @@ module _ (merging : Bool) (bs : List ℕ) (room : ℕ) (a : Accepted bs room) wh
   all_good : every (good_declarator (names_of bs)) (declarator_records declared) ≡ true
   all_good =
       let w = misnamed (names_of bs) in
-      let x = file-names merging f w in
+      let x = moves-names f w (file-moves f) in
       let y = program-declarators (λ d. w d.name) f.statements in
       let z = program-declarators (λ d. w d.name) g.statements in
       let n = all_named (names_of bs) (all_declarators f.statements) (rw (read-declarators bs room a) (good_script a).0) in
@@ -113,7 +115,7 @@ module _ (merging : Bool) (bs : List ℕ) (room : ℕ) (a : Accepted bs room) wh
 
   -- rows 7 and 8
   fits : (roots_stand row ≡ true) × (all_placed row ≡ true) × (all_well_made f.names row ≡ true)
-  fits = row-fit f.names row (program-sums (misfit f.names) g.statements ∙ file-fit merging f (file-fits bs room a))
+  fits = row-fit f.names row (program-sums (misfit f.names) g.statements ∙ moves-fit f (file-moves f) (file-fits bs room a))
 
   nodes : bad_nodes (names_of (print g)) (nodes_of (print g)) ≡ false
   unfolding bad_nodes
@@ -138,7 +140,7 @@ module _ (merging : Bool) (bs : List ℕ) (room : ℕ) (a : Accepted bs room) wh
   once =
       rw (printed_declarators g)
       (declared-once declared (λ x n.
-      let h = file-names merging f (λ y. one (eqb y x)) in
+      let h = moves-names f (λ y. one (eqb y x)) (file-moves f) in
       let i = program-declarators (λ d. one (eqb d.name x)) g.statements in
       let j = (names-accepted bs room a).once x n in
       omega (arith, h, i, j)))
@@ -148,8 +150,8 @@ module _ (merging : Bool) (bs : List ℕ) (room : ℕ) (a : Accepted bs room) wh
   counted x h =
       let few = few-names bs room a in
       let known : eqb no_number x ≡ false = ne_eqb no_number x (λ z. omega (arith, h, few)) in
-      let i = file-reads merging f x known (file-fits bs room a) in
-      let j = file-targets merging f x known (file-fits bs room a) in
+      let i = moves-lighter f (reads x) (reads_light f.names x known) (file-moves f) (file-fits bs room a) in
+      let j = moves-lighter f (targets x) (targets_light f.names x known) (file-moves f) (file-fits bs room a) in
       let i₁ = program-uses name_read x f.statements in
       let i₂ = program-uses name_read x g.statements in
       let j₁ = program-uses (λ n kids. target_name n) x f.statements in
@@ -161,7 +163,7 @@ module _ (merging : Bool) (bs : List ℕ) (room : ℕ) (a : Accepted bs room) wh
   counts =
       rw (printed_forest g, printed_names g, same_names, every-each (λ name n. good_counts n (reads_of name row) (targets_of name row)) no_name 0 (names_of bs) (λ k l. (let z : 0 + k ≡ k = omega arith in rw z (counted k l))))
 
-  pub printed_accepted : Accepted (print (fold_file_by merging (read bs)).file) room
+  pub printed_accepted : Accepted (print (fold_file (read bs)).file) room
   printed_accepted = record {
     is_script = printed_script g;
     version = printed_version g;
@@ -176,6 +178,6 @@ module _ (merging : Bool) (bs : List ℕ) (room : ℕ) (a : Accepted bs room) wh
     fits = room_fits;
   }
 
-pub result-accepted : (merging : Bool) (bytes : List ℕ) (room : ℕ) → refusal bytes room ≡ 0 → refusal (fold_bytes_by merging bytes room).result room ≡ 0
-unfolding fold_bytes_by accepted
-result-accepted merging bytes room e = rw e (accepts (print (fold_file_by merging (read bytes)).file) room (printed_accepted merging bytes room (rows-passed bytes room e)))
+pub result-accepted : (bytes : List ℕ) (room : ℕ) → refusal bytes room ≡ 0 → refusal (fold_bytes bytes room).result room ≡ 0
+unfolding fold_bytes accepted
+result-accepted bytes room e = rw e (accepts (print (fold_file (read bytes)).file) room (printed_accepted bytes room (rows-passed bytes room e)))

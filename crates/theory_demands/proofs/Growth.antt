@@ -18,7 +18,7 @@ use Rattle.theory_preservation.proofs.Turned.{Turned, replaced-turned, stopped-t
 use Rattle.theory_preservation.proofs.Places.{Place, declarator, statement, initializer}
 use Rattle.theory_preservation.proofs.Moves.{FoldAt, StopAt, DropAt, Moves, done, fold, stop, drop}
 use Rattle.theory_preservation.proofs.Totals.{of_initializer, total, there, trees}
-use Rattle.theory_preservation.proofs.Sums.{fold-before, fold-behind, fold-trees_before, fold-trees_behind, stop-before, stop-behind, stop-trees_before, stop-trees_behind, drop-sum}
+use Rattle.theory_preservation.proofs.Sums.{fold-before, fold-behind, fold-trees_before, fold_trees_behind, stop-before, stop-behind, stop-trees_before, stop_trees_behind, drop-sum}
 use Rattle.theory_preservation.proofs.Fit.{fit, misfit, fit_parts, fit-turned, misfit-none}
 use Rattle.theory_preservation.proofs.FineKept.{none-placed}
 
@@ -91,7 +91,7 @@ module _ (names : List NameFacts) (a : ℕ) (known : eqb no_number a ≡ false) 
   }
 
 module _ (f : File) where
-  abbrev pub Fits : List Statement → Type 0
+  abbrev Fits : List Statement → Type 0
   Fits P = trees (misfit f.names) P ≡ 0
 
   -- the trees that a move touches are fit
@@ -108,14 +108,14 @@ module _ (f : File) where
     fold-lighter {φ = φ} m fits =
         let (r, t) = fold-fit m fits in
         let x = fold-trees_before m w in
-        let y = fold-trees_behind m w in
+        let y = fold_trees_behind m w in
         let z = light.once φ.name φ.initializer φ.into m.tree r t (replaced-turned (context_of f) φ.name φ.initializer φ.into m.tree m.placed) in
         omega (arith, x, y, z)
 
     stop-lighter : {P Q : List Statement} → StopAt (context_of f) P Q → Fits P → trees w Q ≤ trees w P
     stop-lighter m fits =
         let x = stop-trees_before m w in
-        let y = stop-trees_behind m w in
+        let y = stop_trees_behind m w in
         let z = light.never m.name m.old m.new (stop-fit m fits) (none-placed m.old (stopped-turned (context_of f) m.name m.initial m.old m.new m.ended) refl) in
         omega (arith, x, y, z)
 

@@ -1,9 +1,8 @@
--- The laws of a result, and the bound of the looks, of any accepted bytes, with or without merges: each is one theorem. Assumes
--- nothing; demand 3 itself is in Demand3.antt.
+-- The laws of a result, and the bound of the looks, of any accepted bytes: each is one theorem. Assumes nothing; demand 3 itself is in
+-- Demand3.antt.
 use Prim.Native.Nat.{ℕ, ◌+◌, ◌*◌, ◌≤◌}
 use native.Mathlib.Nat.{mul-le-mul_left}
 use native.Mathlib.Omega.{arith}
-use mathlib.Core.Bool.{Bool}
 use mathlib.Core.List.{List}
 use mathlib.Core.Path.{◌≡◌, sym, ap, ◌∙◌, subst}
 use lib.ListN.{length}
@@ -15,7 +14,7 @@ use Rattle.records.specs.Tree.{sizes}
 use Rattle.records.specs.File.{File, header_for, names_of, scopes_of, frames_of, all_trees, all_declarators, read, print}
 use Rattle.records.specs.Refusal.{refusal}
 use Rattle.records.specs.declared.layout.Header.{Header}
-use Rattle.statements_rules.specs.Fold.{fold_file_by, Returned, accepted, fold_bytes_by}
+use Rattle.statements_rules.specs.Fold.{fold_file, Returned, accepted, fold_bytes}
 use Rattle.statements_rules.proofs.Totals.{declarators-folded}
 use Rattle.statements_rules.proofs.Looks.{file-looks}
 use Rattle.records_laws.proofs.Accepted.{Accepted, accepted as rows-passed, has_length}
@@ -27,49 +26,49 @@ use Rattle.theory_demands.proofs.Acceptance.{lower, same_names, same-scopes, sam
 use Rattle.theory_demands.proofs.ResultBytes.{result_bytes}
 
 -- what is returned of accepted bytes
-pub returned : (merging : Bool) (bytes : List ℕ) (room : ℕ) → refusal bytes room ≡ 0 → fold_bytes_by merging bytes room ≡ accepted (fold_file_by merging (read bytes))
-unfolding fold_bytes_by
-returned merging bytes room e = rw e
+pub returned : (bytes : List ℕ) (room : ℕ) → refusal bytes room ≡ 0 → fold_bytes bytes room ≡ accepted (fold_file (read bytes))
+unfolding fold_bytes
+returned bytes room e = rw e
 
-module _ (merging : Bool) (bytes : List ℕ) (room : ℕ) (e : refusal bytes room ≡ 0) where
+module _ (bytes : List ℕ) (room : ℕ) (e : refusal bytes room ≡ 0) where
   abbrev pub result : List ℕ
-  result = (fold_bytes_by merging bytes room).result
+  result = (fold_bytes bytes room).result
 
   abbrev folded : File
-  folded = (fold_file_by merging (read bytes)).file
+  folded = (fold_file (read bytes)).file
 
   abbrev rows : Accepted bytes room
   rows = rows-passed bytes room e
 
   -- the result is the fold of the file, printed
-  pub result-is : result ≡ print (fold_file_by merging (read bytes)).file
+  pub result-is : result ≡ print (fold_file (read bytes)).file
   unfolding accepted
-  result-is = ap (λ (r : Returned). r.result) (returned merging bytes room e)
+  result-is = ap (λ (r : Returned). r.result) (returned bytes room e)
 
   -- and is read as that
-  pub result-reads : read result ≡ (fold_file_by merging (read bytes)).file
-  result-reads = result-read merging bytes room e
+  pub result-reads : read result ≡ (fold_file (read bytes)).file
+  result-reads = result-read bytes room e
 
   -- "The result of an accepted file is accepted with the same room."
   pub accepted-again : refusal result room ≡ 0
-  accepted-again = result-accepted merging bytes room e
+  accepted-again = result-accepted bytes room e
 
   -- so it can be folded again
-  pub folds-again : (fold_bytes_by merging result room).number ≡ 0
+  pub folds-again : (fold_bytes result room).number ≡ 0
   unfolding accepted
-  folds-again = ap (λ (r : Returned). r.number) (returned merging result room accepted-again)
+  folds-again = ap (λ (r : Returned). r.number) (returned result room accepted-again)
 
   -- and is bytes if they were
   pub bytes_again : Bytes bytes → Bytes result
-  bytes_again small = result_bytes merging bytes room small e
+  bytes_again small = result_bytes bytes room small e
 
   -- the length that is returned is the result's
-  pub result-measured : (fold_bytes_by merging bytes room).result_length ≡ length result
+  pub result-measured : (fold_bytes bytes room).result_length ≡ length result
   unfolding accepted
-  result-measured = ap (λ (r : Returned). r.result_length) (returned merging bytes room e) ∙ sym (ap length result-is)
+  result-measured = ap (λ (r : Returned). r.result_length) (returned bytes room e) ∙ sym (ap length result-is)
 
   counts : Lower (header_of bytes) (header_of result)
-  counts = subst (λ h. Lower (header_of bytes) h) (sym (ap header_of result-is ∙ printed_header folded)) (lower merging bytes room rows)
+  counts = subst (λ h. Lower (header_of bytes) h) (sym (ap header_of result-is ∙ printed_header folded)) (lower bytes room rows)
 
   -- the room that a result asks for is no more: length + 8 × D never grows
   pub room_most : length result + 8 * (header_of result).declarators ≤ length bytes + 8 * (header_of bytes).declarators
@@ -91,14 +90,14 @@ module _ (merging : Bool) (bytes : List ℕ) (room : ℕ) (e : refusal bytes roo
   nodes_and_declarators = counts.weight
 
   -- each fold takes one declarator
-  pub declarators-taken : (header_of result).declarators + (fold_bytes_by merging bytes room).folds ≡ (header_of bytes).declarators
+  pub declarators-taken : (header_of result).declarators + (fold_bytes bytes room).folds ≡ (header_of bytes).declarators
   unfolding accepted header_for
   declarators-taken =
-      let w = ap (λ (r : Returned). r.folds) (returned merging bytes room e) in
+      let w = ap (λ (r : Returned). r.folds) (returned bytes room e) in
       let x = ap (λ (h : Header). h.declarators) (read_header bytes room rows) in
       let y = ap (λ (bs : List ℕ). (header_of bs).declarators) result-is in
       let z = ap (λ (h : Header). h.declarators) (printed_header folded) in
-      let d = declarators-folded merging (read bytes) in
+      let d = declarators-folded (read bytes) in
       omega (arith, w, x, y, z, d)
 
   -- statements are dropped, but never the last one that is left
@@ -110,13 +109,13 @@ module _ (merging : Bool) (bytes : List ℕ) (room : ℕ) (e : refusal bytes roo
 
   -- "Facts, scopes, frames and options are copied to the result."
   pub names-copied : names_of result ≡ names_of bytes
-  names-copied = ap names_of result-is ∙ printed_names folded ∙ same_names merging bytes room rows
+  names-copied = ap names_of result-is ∙ printed_names folded ∙ same_names bytes room rows
 
   pub scopes-copied : scopes_of result ≡ scopes_of bytes
-  scopes-copied = ap scopes_of result-is ∙ printed_scopes folded ∙ same-scopes merging bytes room rows
+  scopes-copied = ap scopes_of result-is ∙ printed_scopes folded ∙ same-scopes bytes room rows
 
   pub frames-copied : frames_of result ≡ frames_of bytes
-  frames-copied = ap frames_of result-is ∙ printed_frames folded ∙ same-frames merging bytes room rows
+  frames-copied = ap frames_of result-is ∙ printed_frames folded ∙ same-frames bytes room rows
 
   pub options-copied : (header_of result).options ≡ (header_of bytes).options
   options-copied = counts.options
@@ -128,7 +127,7 @@ module _ (merging : Bool) (bytes : List ℕ) (room : ℕ) (e : refusal bytes roo
   this_scope_copied = counts.this
 
   -- "looks never exceed (T + 2D) × 3,000"
-  pub file-looks-most : (fold_file_by merging (read bytes)).looks ≤ ((header_of bytes).statements + 2 * (header_of bytes).declarators) * max_nodes
+  pub file-looks-most : (fold_file (read bytes)).looks ≤ ((header_of bytes).statements + 2 * (header_of bytes).declarators) * max_nodes
   unfolding header_for
   file-looks-most =
       let h = header_of bytes in
@@ -140,4 +139,4 @@ module _ (merging : Bool) (bytes : List ℕ) (room : ℕ) (e : refusal bytes roo
       let most = leb-true (h.nodes + 2 * h.declarators) max_nodes (limits-parts h rows.limits).0.nodes in
       let few : sizes (all_trees f.statements) + length (all_declarators f.statements) ≤ max_nodes = omega (arith, d, m, most) in
       let x = mul-le-mul_left (length f.statements + 2 * length (all_declarators f.statements)) few in
-      omega (arith, file-looks merging f, x, t, d)
+      omega (arith, file-looks f, x, t, d)

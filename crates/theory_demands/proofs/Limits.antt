@@ -1,28 +1,23 @@
 -- Rows 3 and 11: the counts of a result stay within the limits, and it asks for no more room.
 use Prim.Native.Nat.{ℕ, ◌+◌, ◌*◌, ◌≤◌}
 use native.Mathlib.Omega.{arith}
-use mathlib.Core.Bool.{Bool, true, false, ◌&&◌}
+use mathlib.Core.Bool.{true, false, ◌&&◌}
 use mathlib.Core.List.{List, [], ◌∷◌}
-use mathlib.Core.Path.{◌≡◌, refl, ap}
+use mathlib.Core.Path.{◌≡◌, refl}
 use lib.ListN.{length, length-map, length-reverse}
 use lib.Dec.{eqb, leb}
-use borrow.Author.Tests.{eq-eqb, leb-true, le-leb, not-false}
+use borrow.Author.Tests.{leb-true, le-leb, not-false}
 use Rattle.records.specs.Limits.{max_names, min_scopes, max_scopes, max_frames, max_declarators, min_statements, max_statements, max_nodes}
-use Rattle.records.specs.Tree.{Tree, Trees, none, more, count}
-use Rattle.records.specs.File.{Initializer, bare, given, Statement, declaration, expression, other, File, header_for, file_length}
+use Rattle.records.specs.File.{Statement, declaration, expression, other, File, header_for, file_length}
 use Rattle.records.specs.Header.{counts_fit, options_known, header_scopes, outside_limits}
 use Rattle.records.specs.declared.layout.Header.{Header}
 use Rattle.records.proofs.Tests.{both, all_three}
 use Rattle.walk_rules.specs.Context.{Context, context_of}
-use Rattle.statements_rules.specs.Trace.{Traced, pure, ◌>>=◌}
-use Rattle.statements_rules.specs.Declarators.{Searched, ended}
-use Rattle.statements_rules.specs.Merge.{untaken, into_last, is_plain_write, merge_assignment_to_declaration, parts_of, may_take, after_part, merge_parts, left_of, left_over, merge_leading_assignments_to_declaration}
-use Rattle.statements_rules.specs.Statements.{Kept, statement_of, leading, pushed, fold_statement, fold_statements}
-use Rattle.statements_rules.specs.Fold.{with_statements, folded_file, fold_file_by}
+use Rattle.statements_rules.specs.Trace.{pure, ◌>>=◌}
+use Rattle.statements_rules.specs.Statements.{Kept, statement_of, fold_statement, fold_statements}
+use Rattle.statements_rules.specs.Fold.{with_statements, folded_file, fold_file}
 use Rattle.statements_rules.proofs.Totals.{nodes_and_declarators, declarators-folded, statements-kept}
 use Rattle.statements_rules.proofs.Lengths.{nodes-most}
-use Rattle.statements_rules.proofs.Merging.{leading-merges}
-use Rattle.theory_preservation.proofs.Tests.{same_cond}
 
 -- A header with the facts of another, and counts that are no more.
 pub record Lower (h h' : Header) : Type 0 where
@@ -98,72 +93,49 @@ limits-lower h h' l e =
     let (counts, options, scopes, last) = limits-parts h e in
     rw (counts-lower h h' l counts, l.options, options, l.current, l.this, l.scopes, scopes, l.last, last)
 
--- The statement that was searched last is kept, unless it was merged into one that is.
+-- The statement that was searched last is always kept.
 abbrev Some : {A : Type 0} → List A → Type 0
 Some xs = 1 ≤ length xs
 
-untaken-before : (t : Tree) → merge_assignment_to_declaration t [] ≡ untaken
-unfolding merge_assignment_to_declaration into_last
-untaken-before t = same_cond (is_plain_write t) untaken
-
-none-merged : (discarded : Bool) (ts : Trees) → (merge_parts discarded ts []).result.target ≡ ts
-unfolding merge_parts after_part pure
-none-merged discarded none = refl
-none-merged discarded (more t ts) = rw (untaken-before t) (ap (λ (w : Traced (Searched Trees Kept)). w.result.target) (same_cond (may_take discarded ts) (ended (more t ts) [])))
-
-stays-whole : (merging : Bool) (t : Tree) → (leading merging true t []).result.target ≡ given t
-unfolding leading merge_leading_assignments_to_declaration left_of left_over ◌>>=◌ pure
-stays-whole false t = refl
-stays-whole true t = rw (none-merged true (parts_of t), eq-eqb (count (parts_of t)) (count (parts_of t)) refl)
-
-pushed-some : (number : ℕ) (z : Initializer) (ks : List Kept) → Some ks → Some (pushed number z ks)
-unfolding pushed
-pushed-some number bare ks h = h
-pushed-some number (given t) ks h = omega (arith, h)
-
-left-some : (merging : Bool) (number : ℕ) (t : Tree) (ks : List Kept) → Some (pushed number (leading merging true t ks).result.target (leading merging true t ks).result.left)
-left-some merging number t [] = rw (stays-whole merging t) (unfold pushed in omega arith)
-left-some merging number t (k ∷ ks) = pushed-some number _ _ (let x = (leading-merges merging true t (k ∷ ks)).long in omega (arith, x))
-
-module _ (merging : Bool) (ctx : Context) where
-  one_kept : (number : ℕ) (earlier : List Kept) (s : Statement) → Some (fold_statement merging ctx number earlier s).result
+module _ (ctx : Context) where
+  one_kept : (number : ℕ) (earlier : List Kept) (s : Statement) → Some (fold_statement ctx number earlier s).result
   unfolding fold_statement pure ◌>>=◌
   one_kept number earlier (declaration kind ds) = omega arith
-  one_kept number earlier (expression t) = left-some merging number _ _
+  one_kept number earlier (expression t) = omega arith
   one_kept number earlier other = omega arith
 
-  some-kept : (number : ℕ) (earlier : List Kept) (ss : List Statement) → Some earlier → Some (fold_statements merging ctx number earlier ss).result
+  some-kept : (number : ℕ) (earlier : List Kept) (ss : List Statement) → Some earlier → Some (fold_statements ctx number earlier ss).result
   unfolding fold_statements pure ◌>>=◌
   some-kept number earlier [] h = let x = length-reverse earlier in omega (arith, h, x)
-  some-kept number earlier (s ∷ ss) h = some-kept (number + 1) (fold_statement merging ctx number earlier s).result ss (one_kept number earlier s)
+  some-kept number earlier (s ∷ ss) h = some-kept (number + 1) (fold_statement ctx number earlier s).result ss (one_kept number earlier s)
 
-  any-kept : (number : ℕ) (ss : List Statement) → Some ss → Some (fold_statements merging ctx number [] ss).result
+  any-kept : (number : ℕ) (ss : List Statement) → Some ss → Some (fold_statements ctx number [] ss).result
   unfolding fold_statements ◌>>=◌
   any-kept number [] h = absurd (omega arith)
-  any-kept number (s ∷ ss) h = some-kept (number + 1) (fold_statement merging ctx number [] s).result ss (one_kept number [] s)
+  any-kept number (s ∷ ss) h = some-kept (number + 1) (fold_statement ctx number [] s).result ss (one_kept number [] s)
 
-pub statements-some : (merging : Bool) (f : File) → 1 ≤ length f.statements → 1 ≤ length (fold_file_by merging f).file.statements
-unfolding fold_file_by folded_file with_statements
-statements-some merging f h =
-    let x = any-kept merging (context_of f) 0 f.statements h in
-    let y = length-map (fold_statements merging (context_of f) 0 [] f.statements).result statement_of in
+pub statements-some : (f : File) → 1 ≤ length f.statements → 1 ≤ length (fold_file f).file.statements
+unfolding fold_file folded_file with_statements
+statements-some f h =
+    let x = any-kept (context_of f) 0 f.statements h in
+    let y = length-map (fold_statements (context_of f) 0 [] f.statements).result statement_of in
     omega (arith, x, y)
 
-pub header_lower : (merging : Bool) (f : File) → 1 ≤ length f.statements → Lower (header_for f) (header_for (fold_file_by merging f).file)
+pub header_lower : (f : File) → 1 ≤ length f.statements → Lower (header_for f) (header_for (fold_file f).file)
 unfolding header_for
-header_lower merging f h = record {
-  options = unfold fold_file_by folded_file with_statements in refl;
-  names = unfold fold_file_by folded_file with_statements in refl;
-  scopes = unfold fold_file_by folded_file with_statements in refl;
-  frames = unfold fold_file_by folded_file with_statements in refl;
-  current = unfold fold_file_by folded_file with_statements in refl;
-  this = unfold fold_file_by folded_file with_statements in refl;
+header_lower f h = record {
+  options = unfold fold_file folded_file with_statements in refl;
+  names = unfold fold_file folded_file with_statements in refl;
+  scopes = unfold fold_file folded_file with_statements in refl;
+  frames = unfold fold_file folded_file with_statements in refl;
+  current = unfold fold_file folded_file with_statements in refl;
+  this = unfold fold_file folded_file with_statements in refl;
   last = refl;
-  declarators = omega (arith, declarators-folded merging f);
-  some = statements-some merging f h;
-  statements = statements-kept merging f;
-  nodes = nodes-most merging f;
-  weight = nodes_and_declarators merging f;
+  declarators = omega (arith, declarators-folded f);
+  some = statements-some f h;
+  statements = statements-kept f;
+  nodes = nodes-most f;
+  weight = nodes_and_declarators f;
 }
 
 -- length + 8 × D never grows

@@ -35,26 +35,26 @@ unfoldable mutual
   all_narrow (more t ts) = narrow t && all_narrow ts
 
 -- a node and its children
-pub node-parts : (n : Node) (ts : Trees) → narrow (node n ts) ≡ true → (ltb n.label 65536 ≡ true) × (ltb n.position 4294967296 ≡ true) × (all_narrow ts ≡ true)
+node-parts : (n : Node) (ts : Trees) → narrow (node n ts) ≡ true → (ltb n.label 65536 ≡ true) × (ltb n.position 4294967296 ≡ true) × (all_narrow ts ≡ true)
 unfolding narrow
 node-parts n ts h =
     let (x, c) = both (fitting n.label n.position) (all_narrow ts) h in
     let (a, b) = both (ltb n.label 65536) (ltb n.position 4294967296) x in
     (a, b, c)
 
-pub node-whole : (n : Node) (ts : Trees) → ltb n.label 65536 ≡ true → ltb n.position 4294967296 ≡ true → all_narrow ts ≡ true → narrow (node n ts) ≡ true
+node-whole : (n : Node) (ts : Trees) → ltb n.label 65536 ≡ true → ltb n.position 4294967296 ≡ true → all_narrow ts ≡ true → narrow (node n ts) ≡ true
 unfolding narrow
 node-whole n ts a b c = rw (a, b, c)
 
-pub row-none : all_narrow none ≡ true
+row-none : all_narrow none ≡ true
 unfolding narrow
 row-none = refl
 
-pub row-parts : (t : Tree) (ts : Trees) → all_narrow (more t ts) ≡ true → (narrow t ≡ true) × (all_narrow ts ≡ true)
+row-parts : (t : Tree) (ts : Trees) → all_narrow (more t ts) ≡ true → (narrow t ≡ true) × (all_narrow ts ≡ true)
 unfolding narrow
 row-parts t ts h = both (narrow t) (all_narrow ts) h
 
-pub row-whole : (t : Tree) (ts : Trees) → narrow t ≡ true → all_narrow ts ≡ true → all_narrow (more t ts) ≡ true
+row-whole : (t : Tree) (ts : Trees) → narrow t ≡ true → all_narrow ts ≡ true → all_narrow (more t ts) ≡ true
 unfolding narrow
 row-whole t ts a b = rw (a, b)
 

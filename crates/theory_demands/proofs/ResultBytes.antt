@@ -1,4 +1,4 @@
--- The result of accepted bytes, with or without merges, is bytes: every number of it fits where it is printed. Assumes nothing.
+-- The result of accepted bytes is bytes: every number of it fits where it is printed. Assumes nothing.
 use Prim.Native.Nat.{ℕ, zero, suc, ◌+◌, ◌*◌, ◌<◌}
 use native.Mathlib.Omega.{arith}
 use mathlib.Core.Bool.{Bool, true, false, ◌&&◌, ◌||◌}
@@ -19,7 +19,7 @@ use Rattle.records.specs.File.{File, header_for, names_of, scopes_of, frames_of,
 use Rattle.records.specs.Refusal.{refusal}
 use Rattle.records.specs.declared.layout.Header.{Header}
 use Rattle.records.proofs.Tests.{both, every-parts, every_more}
-use Rattle.statements_rules.specs.Fold.{fold_file_by, accepted, fold_bytes_by}
+use Rattle.statements_rules.specs.Fold.{fold_file, accepted, fold_bytes}
 use Rattle.records_laws.proofs.Numbers.{u16_fits}
 use Rattle.records_laws.proofs.Accepted.{Accepted, accepted as rows-passed, good_script, good_nodes}
 use Rattle.records_laws.proofs.PrintedFile.{printed_header, printed_names, printed_nodes, printed_declarators, printed_statements}
@@ -27,10 +27,11 @@ use Rattle.records_laws.proofs.PrintedTests.{declarators_summed}
 use Rattle.records_laws.proofs.ReadFile.{read-nodes}
 use Rattle.theory_preservation.proofs.Tests.{by_or}
 use Rattle.theory_preservation.proofs.Totals.{program-sums}
+use Rattle.theory_preservation.proofs.Moves.{file-moves}
 use Rattle.theory_demands.proofs.Rows.{file-fits}
-use Rattle.theory_demands.proofs.Kept.{file-narrow}
+use Rattle.theory_demands.proofs.Growth.{moves-lighter}
 use Rattle.theory_demands.proofs.Limits.{Within, limits-parts}
-use Rattle.theory_demands.proofs.Narrow.{narrow_record, wide, records-fit, fit-records}
+use Rattle.theory_demands.proofs.Narrow.{narrow_record, wide, wide_light, records-fit, fit-records}
 use Rattle.theory_demands.proofs.Small.{Small, end, byte, small-append, small_bytes, two, all_small, read_small, u32_fits, name-small, scope-small, frame_small, node-small, declarator-small, statements-small}
 use Rattle.theory_demands.proofs.Acceptance.{same_names, same-scopes, same-frames, printed_accepted}
 
@@ -79,17 +80,17 @@ every_and a b (x ∷ xs) h g =
     let (r, s) = every-parts b x xs g in
     every_more (λ x. a x && b x) x xs (rw (p, r)) (every_and a b xs q s)
 
-every-read : {A : Type 0} (good : A → Bool) (read_at : ℕ → A) (len n at : ℕ) → ((i : ℕ) → good (read_at i) ≡ true) → every good (records_from read_at len n at) ≡ true
+every-read : {A : Type 0} (good : A → Bool) (readAt : ℕ → A) (len n at : ℕ) → ((i : ℕ) → good (readAt i) ≡ true) → every good (records_from readAt len n at) ≡ true
 unfolding every_from records_from
-every-read good read_at len zero at h = refl
-every-read good read_at len (suc n) at h = every_more good (read_at at) (records_from read_at len n (at + len)) (h at) (every-read good read_at len n (at + len) h)
+every-read good readAt len zero at h = refl
+every-read good readAt len (suc n) at h = every_more good (readAt at) (records_from readAt len n (at + len)) (h at) (every-read good readAt len n (at + len) h)
 
-module _ (merging : Bool) (bs : List ℕ) (small : Bytes bs) (room : ℕ) (a : Accepted bs room) where
+module _ (bs : List ℕ) (small : Bytes bs) (room : ℕ) (a : Accepted bs room) where
   abbrev g : File
-  g = (fold_file_by merging (read bs)).file
+  g = (fold_file (read bs)).file
 
   abbrev rows : Accepted (print g) room
-  rows = printed_accepted merging bs room a
+  rows = printed_accepted bs room a
 
   -- labels and positions that were read fit, so those of the result do
   narrow-read : every narrow_record (nodes_of bs) ≡ true
@@ -106,8 +107,8 @@ module _ (merging : Bool) (bs : List ℕ) (small : Bytes bs) (room : ℕ) (a : A
       let x = records-fit (all_trees f.statements) [] (rw (read-nodes bs room a) narrow-read) in
       let y = program-sums wide f.statements in
       let z = program-sums wide g.statements in
-      let m = file-narrow merging f (file-fits bs room a) (omega (arith, x, y)) in
-      fit-records (all_trees g.statements) [] (omega (arith, z, m)) refl
+      let m = moves-lighter f wide (wide_light f.names) (file-moves f) (file-fits bs room a) in
+      fit-records (all_trees g.statements) [] (omega (arith, x, y, z, m)) refl
 
   -- each part
   limits : outside_limits (header_for g) ≡ false
@@ -118,15 +119,15 @@ module _ (merging : Bool) (bs : List ℕ) (small : Bytes bs) (room : ℕ) (a : A
 
   names_part : Small (bytes_of name_bytes g.names)
   unfolding names_of
-  names_part = rw (same_names merging bs room a) (read_small name_bytes (name_at bs) _ _ _ (name-small bs small))
+  names_part = rw (same_names bs room a) (read_small name_bytes (name_at bs) _ _ _ (name-small bs small))
 
   scopes_part : Small (bytes_of scope_bytes g.scopes)
   unfolding scopes_of
-  scopes_part = rw (same-scopes merging bs room a) (read_small scope_bytes (scope_at bs) _ _ _ (scope-small bs small))
+  scopes_part = rw (same-scopes bs room a) (read_small scope_bytes (scope_at bs) _ _ _ (scope-small bs small))
 
   frames_part : Small (bytes_of frame_bytes g.frames)
   unfolding frames_of
-  frames_part = rw (same-frames merging bs room a) (read_small frame_bytes (frame_at bs) _ _ _ (frame_small bs small))
+  frames_part = rw (same-frames bs room a) (read_small frame_bytes (frame_at bs) _ _ _ (frame_small bs small))
 
   nodes_part : Small (bytes_of node_bytes (preorders (all_trees g.statements) []))
   nodes_part =
@@ -158,6 +159,6 @@ module _ (merging : Bool) (bs : List ℕ) (small : Bytes bs) (room : ℕ) (a : A
       (small-append (bytes_of node_bytes (preorders (all_trees g.statements) [])) _ nodes_part
       (small-append (bytes_of declarator_bytes (declarator_records (all_declarators g.statements))) _ declarators_part statements_part))))))
 
-pub result_bytes : (merging : Bool) (bytes : List ℕ) (room : ℕ) → Bytes bytes → refusal bytes room ≡ 0 → Bytes (fold_bytes_by merging bytes room).result
-unfolding fold_bytes_by accepted
-result_bytes merging bytes room small e = rw e (printed_bytes merging bytes small room (rows-passed bytes room e))
+pub result_bytes : (bytes : List ℕ) (room : ℕ) → Bytes bytes → refusal bytes room ≡ 0 → Bytes (fold_bytes bytes room).result
+unfolding fold_bytes accepted
+result_bytes bytes room small e = rw e (printed_bytes bytes small room (rows-passed bytes room e))

@@ -298,8 +298,8 @@ module _ (bs : List ℕ) (room : ℕ) (a : Passed bs room) where
       omega (arith, h, g)
 
   -- what it says of the trees; that no initializer is `eval` is shape R
-  pub file-fine : shape_r f ≡ false → Fine f f.statements
-  file-fine e = record {
+  pub file_fine : shape_r f ≡ false → Fine f f.statements
+  file_fine e = record {
     fits = file-fits;
     reads_in = λ x n. omega arith;
     targets-in = λ x n. omega arith;

@@ -50,10 +50,10 @@ module _ {A : Type 0} (bytes : A → List ℕ) where
   all_small good h [] e = end
   all_small good h (x ∷ xs) e = let (a, b) = every-parts good x xs e in small-append (bytes x) (bytes_of bytes xs) (h x a) (all_small good h xs b)
 
-  pub read_small : (read_at : ℕ → A) (len n at : ℕ) → ((i : ℕ) → Small (bytes (read_at i))) → Small (bytes_of bytes (records_from read_at len n at))
+  pub read_small : (readAt : ℕ → A) (len n at : ℕ) → ((i : ℕ) → Small (bytes (readAt i))) → Small (bytes_of bytes (records_from readAt len n at))
   unfolding records_from bytes_of
-  read_small read_at len zero at h = end
-  read_small read_at len (suc n) at h = small-append (bytes (read_at at)) (bytes_of bytes (records_from read_at len n (at + len))) (h at) (read_small read_at len n (at + len) h)
+  read_small readAt len zero at h = end
+  read_small readAt len (suc n) at h = small-append (bytes (readAt at)) (bytes_of bytes (records_from readAt len n (at + len))) (h at) (read_small readAt len n (at + len) h)
 
 module _ (bs : List ℕ) (small : Bytes bs) where
   pub u32_fits : (i : ℕ) → u32_at bs i < 4294967296

@@ -31,10 +31,10 @@ module _ (names : List NameFacts) where
   abbrev Nothing : Tree → Type 0
   Nothing t = beside_of names t ≡ nothing
 
-  eval-by : (x y : Bool) → (x && y) ≡ false → (b : Beside (Unit {0})) → b ≡ nothing → cond x (cond y bare_eval nothing) b ≡ nothing
-  eval-by true true e b g = clash true e refl
-  eval-by true false e b g = refl
-  eval-by false y e b g = g
+  eval_by : (x y : Bool) → (x && y) ≡ false → (b : Beside (Unit {0})) → b ≡ nothing → cond x (cond y bare_eval nothing) b ≡ nothing
+  eval_by true true e b g = clash true e refl
+  eval_by true false e b g = refl
+  eval_by false y e b g = g
 
   cond_none : (x : Bool) (b : Beside (Unit {0})) → (x ≡ true → b ≡ nothing) → cond x b nothing ≡ nothing
   cond_none true b h = h refl
@@ -61,7 +61,7 @@ module _ (names : List NameFacts) where
       let (c, d) = neither (is 10 n || is 11 n) (is 12 n) a in
       let (h, i) = neither (is 10 n) (is 11 n) c in
       rw (name-test n, chain-test n)
-      (eval-by (is 4 n) (is_eval (flags_of names n.label)) e _
+      (eval_by (is 4 n) (is_eval (flags_of names n.label)) e _
       (rw (expression_not n.kind 29 x refl refl, expression_not n.kind 30 x refl refl, h, i, d) (cond_none (is 13 n) (first_or tt (first_of names (cleared n) ts)).beside (λ q. chain-nothing n ts q (under n ts p).0 (and_then (is 13 n) _ q b)))))
 
   module _ {Value Rest : Type 0} (m : Meaning Value Rest) where

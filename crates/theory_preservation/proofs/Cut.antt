@@ -22,7 +22,7 @@ cut_to f m = record {
 }
 
 -- By whether a step is made.
-pub same_by : {A : Type 0} (b : Bool) (x y z : A) → (b ≡ true → x ≡ y) → cond b x z ≡ cond b y z
+same_by : {A : Type 0} (b : Bool) (x y z : A) → (b ≡ true → x ≡ y) → cond b x z ≡ cond b y z
 same_by true x y z h = h refl
 same_by false x y z h = refl
 

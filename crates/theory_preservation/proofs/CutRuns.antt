@@ -3,23 +3,23 @@
 use Prim.Native.Nat.{ℕ}
 use mathlib.Core.Bool.{Bool, true, false, cond, ◌&&◌, ◌||◌, beq}
 use mathlib.Core.List.{List, [], ◌∷◌}
-use mathlib.Core.Path.{◌≡◌, refl, ap, ap₂, ◌∙◌}
+use mathlib.Core.Path.{◌≡◌, refl, ap, ap₂, ◌∙◌, subst}
 use Rattle.records.specs.Tree.{Node, Tree, Trees, node, none, more}
 use Rattle.records.specs.File.{DeclarationKind, Var, Let, Const, Using, AwaitUsing, Initializer, bare, given, Declarator, Statement, declaration, expression, other, File}
 use Rattle.records.specs.declared.layout.NameFacts.{NameFacts}
 use Rattle.statements_rules.specs.Trace.{Fold}
 use Rattle.theory_runs.specs.Store.{Store}
 use Rattle.theory_runs.specs.Hand.{Given, Hand, only}
-use Rattle.theory_runs.specs.Step.{Role, value, Origin, of_declarator, of_other, Step}
+use Rattle.theory_runs.specs.Step.{Role, value, target, Origin, of_declarator, of_other, Step}
 use Rattle.theory_runs.specs.Meaning.{Meaning}
-use Rattle.theory_runs.specs.Form.{cleared, is_marked, Choice, never, logical, conditional, optionally, Form, constant, name, target_name, leaf, chain, property, importing, sequence, assignment, stepping, form, order, is_chain, choice_of, first_role}
+use Rattle.theory_runs.specs.Form.{cleared, is_marked, Choice, never, logical, conditional, optionally, Form, constant, name, target_name, leaf, chain, property, importing, sequence, assignment, stepping, form, order, is_chain, is_plain, choice_of, first_role}
 use Rattle.theory_runs.specs.State.{State, Out, gave, bind}
 use Rattle.theory_runs.specs.Run.{Turn, all, takes, then, resolved, is_read, gathered, chosen, stepped, queued, held, after_first, own, beside, finished, run_node, run, run_children, run_others}
-use Rattle.theory_runs.specs.Script.{is_pattern, sets, gives, binds, declares_bare, declares_with, run_declarator, run_declarators, run_statement, run_statements}
+use Rattle.theory_runs.specs.Script.{is_pattern, sets, gives, binds, declares_bare, declares_with, run_declarator, run_declarators, run_statement, run_statements, begin}
 use Rattle.theory_runs.specs.InHand.{sort_of, are_values, is_nothing, may_have}
 use Rattle.theory_runs.specs.Makes.{Asked, choice, step, is_marked_step, is_made, makes_own, asks, some_turn, makes_in, makes_marked, makes_declarator, makes_statement, makes}
 use Rattle.statements_rules.specs.Declarators.{is_using}
-use Rattle.theory_runs.specs.Facts.{Each, FoldKeeps}
+use Rattle.theory_runs.specs.Facts.{Each, TargetSame, TargetsSame, AllTargetsSame, FoldKeeps}
 use Rattle.records.proofs.Tests.{clash}
 use Rattle.theory_preservation.proofs.Tests.{or_left, or_right}
 use Rattle.theory_preservation.proofs.Ends.{ends_same, step_of}
@@ -27,7 +27,6 @@ use Rattle.theory_preservation.proofs.Passing.{bind-same}
 use Rattle.theory_preservation.proofs.Same.{in_turn_same, goes_same, hand_of}
 use Rattle.theory_preservation.proofs.Cut.{cut_to}
 use Rattle.theory_preservation.proofs.Hands.{choice-fits, gathered-fits, given-fits, hand-fits}
-use Rattle.theory_preservation.proofs.KeepAlike.{all_keep}
 use Rattle.theory_preservation.proofs.Within.{same-origin, Within, WithinForest, WithinDeclarator, declarator-made, WithinDeclarators, WithinProgram, WithinFold, node-steps, node-children, row_first, row-others, initializer-within, first_part, other-parts}
 
 same_self : (b : Bool) → beq b b ≡ true
@@ -127,7 +126,7 @@ module _ {Value Rest : Type 0} (f : File) (m : Meaning Value Rest) where
     unfolding run run_node asks
 
     -- the run of a tree
-    pub run-cut : (t : Tree) (role : Role) → Within Value f role t → (s : S) → run names m t role s ≡ run names m' t role s
+    run-cut : (t : Tree) (role : Role) → Within Value f role t → (s : S) → run names m t role s ≡ run names m' t role s
     run-cut (node n ts) role h s =
         ap (λ o. bind (gathered (form (cleared n)) o s) (finished names m (form (cleared n)) (cleared n) role)) (children-cut ts (cleared n) role (node-steps Value f n ts role h) (node-children Value f n ts role h) s)
         ∙ ends_same (gathered-fits Value names m' (cleared n) ts _ s (hand-fits Value names m' ts (cleared n) role s)) (λ hs s' e.
@@ -177,31 +176,31 @@ module _ {Value Rest : Type 0} (f : File) (m : Meaning Value Rest) where
   bare-cut Using a s h = binds-cut Using a [] s (bare-made Using a refl h)
   bare-cut AwaitUsing a s h = binds-cut AwaitUsing a [] s (bare-made AwaitUsing a refl h)
 
-  with-made : (k : DeclarationKind) (a : ℕ) (t : Tree) (w : Value) → (is_using k || is_pattern a) ≡ true → WithinDeclarator Value f k a (given t) → makes (step true) f (bound k a (only w ∷ [])) ≡ true
+  with_made : (k : DeclarationKind) (a : ℕ) (t : Tree) (w : Value) → (is_using k || is_pattern a) ≡ true → WithinDeclarator Value f k a (given t) → makes (step true) f (bound k a (only w ∷ [])) ≡ true
   unfolding makes_declarator
-  with-made k a t w e h = h (step true) (bound k a (only w ∷ [])) (or_right (makes_in names (step true) (bound k a (only w ∷ [])) t value) _ (rw (e, marked-here (of_declarator k a) (more t none) (only w ∷ []) (one_value t w))))
+  with_made k a t w e h = h (step true) (bound k a (only w ∷ [])) (or_right (makes_in names (step true) (bound k a (only w ∷ [])) t value) _ (rw (e, marked-here (of_declarator k a) (more t none) (only w ∷ []) (one_value t w))))
 
   pattern_cut : (b : Bool) (k : DeclarationKind) (a : ℕ) (t : Tree) (w : Value) (s : S) → is_pattern a ≡ b → WithinDeclarator Value f k a (given t) → cond b (binds m k a (only w ∷ []) s) (sets a w s) ≡ cond b (binds m' k a (only w ∷ []) s) (sets a w s)
-  pattern_cut true k a t w s e h = binds-cut k a (only w ∷ []) s (with-made k a t w (or_right (is_using k) (is_pattern a) e) h)
+  pattern_cut true k a t w s e h = binds-cut k a (only w ∷ []) s (with_made k a t w (or_right (is_using k) (is_pattern a) e) h)
   pattern_cut false k a t w s e h = refl
 
   using_cut : (k : DeclarationKind) (a : ℕ) (t : Tree) (w : Value) (s : S) → is_using k ≡ true → WithinDeclarator Value f k a (given t) → binds m k a (only w ∷ []) s ≡ binds m' k a (only w ∷ []) s
-  using_cut k a t w s e h = binds-cut k a (only w ∷ []) s (with-made k a t w (or_left (is_using k) (is_pattern a) e) h)
+  using_cut k a t w s e h = binds-cut k a (only w ∷ []) s (with_made k a t w (or_left (is_using k) (is_pattern a) e) h)
 
-  with-cut : (k : DeclarationKind) (a : ℕ) (t : Tree) (w : Value) (s : S) → WithinDeclarator Value f k a (given t) → declares_with m k a w s ≡ declares_with m' k a w s
+  with_cut : (k : DeclarationKind) (a : ℕ) (t : Tree) (w : Value) (s : S) → WithinDeclarator Value f k a (given t) → declares_with m k a w s ≡ declares_with m' k a w s
   unfolding declares_with is_using
-  with-cut Var a t w s h = pattern_cut (is_pattern a) Var a t w s refl h
-  with-cut Let a t w s h = pattern_cut (is_pattern a) Let a t w s refl h
-  with-cut Const a t w s h = pattern_cut (is_pattern a) Const a t w s refl h
-  with-cut Using a t w s h = using_cut Using a t w s refl h
-  with-cut AwaitUsing a t w s h = using_cut AwaitUsing a t w s refl h
+  with_cut Var a t w s h = pattern_cut (is_pattern a) Var a t w s refl h
+  with_cut Let a t w s h = pattern_cut (is_pattern a) Let a t w s refl h
+  with_cut Const a t w s h = pattern_cut (is_pattern a) Const a t w s refl h
+  with_cut Using a t w s h = using_cut Using a t w s refl h
+  with_cut AwaitUsing a t w s h = using_cut AwaitUsing a t w s refl h
 
   declarator-cut : (k : DeclarationKind) (a : ℕ) (i : Initializer) (s : S) → WithinDeclarator Value f k a i → run_declarator names m k a i s ≡ run_declarator names m' k a i s
   unfolding run_declarator
   declarator-cut k a bare s h = bare-cut k a s h
   declarator-cut k a (given t) s h =
       ap (λ o. bind o (λ x s'. declares_with m k a x.value s')) (run-cut t value (initializer-within Value f k a t h) s)
-      ∙ bind-same (run names m' t value s) _ _ (λ x s'. with-cut k a t x.value s' h)
+      ∙ bind-same (run names m' t value s) _ _ (λ x s'. with_cut k a t x.value s' h)
 
   declarators-cut : (k : DeclarationKind) (ds : List Declarator) (s : S) → WithinDeclarators Value f k ds → run_declarators names m k ds s ≡ run_declarators names m' k ds s
   unfolding run_declarators
@@ -225,5 +224,30 @@ module _ {Value Rest : Type 0} (f : File) (m : Meaning Value Rest) where
       ∙ bind-same (run_statement names m' t s) _ _ (λ u s'. statements-cut ts s' (other-parts Value f (makes_statement names) t ts h))
 
   -- what is asked of the targets
-  pub all_keeps_cut : (start : Store Value Rest) (φs : List Fold) → Each (WithinFold Value f) φs → Each (FoldKeeps names m start) φs → Each (FoldKeeps names m' start) φs
-  all_keeps_cut = all_keep f m m' run-cut statements-cut
+  plain_role : (n : Node) (role : Role) → is_plain (form n) ≡ true → first_role (form n) n role ≡ target
+  unfolding first_role
+  plain_role n role e = rw e
+
+  target-cut : (n : Node) (role : Role) (ts : Trees) (a : ℕ) (s s' : S) → WithinForest Value f (first_role (form n) n role) ts → TargetSame names m (form n) ts a s s' → TargetSame names m' (form n) ts a s s'
+  target-cut n role none a s s' g h = tt
+  target-cut n role (more t ts) a s s' g h = λ p q r x x' u u' e e'. h p q r x x' u u' (run-cut t target (aimed p) s ∙ e) (run-cut t target (aimed p) s' ∙ e')
+    where
+      aimed : is_plain (form n) ≡ true → Within Value f target t
+      aimed p = subst (λ (ρ : Role). Within Value f ρ t) (plain_role n role p) (row_first Value f t ts (first_role (form n) n role) g)
+
+  mutual
+    targets-cut : (t : Tree) (role : Role) (a : ℕ) (s s' : S) → Within Value f role t → TargetsSame names m t a s s' → TargetsSame names m' t a s s'
+    targets-cut (node n ts) role a s s' g (h, k) =
+        (target-cut (cleared n) role ts a s s' (node-children Value f n ts role g) h, all-targets_cut ts (first_role (form (cleared n)) (cleared n) role) a s s' (node-children Value f n ts role g) k)
+
+    all-targets_cut : (ts : Trees) (role : Role) (a : ℕ) (s s' : S) → WithinForest Value f role ts → AllTargetsSame names m ts a s s' → AllTargetsSame names m' ts a s s'
+    all-targets_cut none role a s s' g h = tt
+    all-targets_cut (more t ts) role a s s' g (h, k) = (targets-cut t role a s s' (row_first Value f t ts role g) h, all-targets_cut ts value a s s' (row-others Value f t ts role g) k)
+
+  module _ (start : Store Value Rest) where
+    keeps_cut : (φ : Fold) → WithinFold Value f φ → FoldKeeps names m start φ → FoldKeeps names m' start φ
+    keeps_cut φ (a, b, c) h = λ s s' x e g. targets-cut φ.into value φ.name s s' c (h s s' x (statements-cut φ.before (begin start) a ∙ e) (run-cut φ.initializer value b s ∙ g))
+
+    pub all_keeps_cut : (φs : List Fold) → Each (WithinFold Value f) φs → Each (FoldKeeps names m start) φs → Each (FoldKeeps names m' start) φs
+    all_keeps_cut [] g h = tt
+    all_keeps_cut (φ ∷ φs) (g, k) (h, l) = (keeps_cut φ g h, all_keeps_cut φs k l)

@@ -16,9 +16,9 @@ use Rattle.theory_preservation.proofs.Counts.{turned-reads, turned-targets, no_t
 use Rattle.theory_preservation.proofs.Moves.{StopAt, DropAt}
 use Rattle.theory_preservation.proofs.Totals.{of_initializer, declaring}
 use Rattle.theory_preservation.proofs.Fine.{unblocked_trees, Fine, unblocked_at}
-use Rattle.theory_preservation.proofs.Fit.{fit, misfit, fit_parts, fit-turned, eval-turned, eval-there, misfit-none}
+use Rattle.theory_preservation.proofs.Fit.{fit, misfit, fit_parts, fit-turned, eval_turned, eval_there, misfit-none}
 use Rattle.theory_preservation.proofs.Positions.{somewhere, some-turned}
-use Rattle.theory_preservation.proofs.Sums.{stop-before, stop-behind, stop-trees_before, stop-trees_behind, stop-declared, drop-sum}
+use Rattle.theory_preservation.proofs.Sums.{stop-before, stop-behind, stop-trees_before, stop_trees_behind, stop-declared, drop-sum}
 
 -- A tree where nothing was placed is so for any initializer.
 module _ {v : ℕ} {r : Tree} (x : Tree) where
@@ -50,28 +50,28 @@ module _ (f : File) (P Q : List Statement) (move : StopAt (context_of f) P Q) (f
       let g = either_same (somewhere (unblocked_at f) move.old) (some-turned (unblocked_at f) turned e) in
       fine.this-in (let a = stop-trees_before move (λ t. one (somewhere (unblocked_at f) t)) in let d = one_of (somewhere (unblocked_at f) move.old) g in omega (arith, a, d))
   stop-this false e h =
-      fine.this-in (let a = stop-trees_before move (λ t. one (somewhere (unblocked_at f) t)) in let d = stop-trees_behind move (λ t. one (somewhere (unblocked_at f) t)) in let k = one_none (somewhere (unblocked_at f) move.new) e in omega (arith, a, d, k, h))
+      fine.this-in (let a = stop-trees_before move (λ t. one (somewhere (unblocked_at f) t)) in let d = stop_trees_behind move (λ t. one (somewhere (unblocked_at f) t)) in let k = one_none (somewhere (unblocked_at f) move.new) e in omega (arith, a, d, k, h))
 
   -- the program with the tree that the search left is as fine
-  pub stop-fine : Fine f Q
-  stop-fine = record {
+  pub stop_fine : Fine f Q
+  stop_fine = record {
     fits =
         let a = fine.fits in
         let b = stop-trees_before move (misfit f.names) in
-        let c = stop-trees_behind move (misfit f.names) in
+        let c = stop_trees_behind move (misfit f.names) in
         let d = misfit-none f.names move.new (fit-turned f.names move.name move.old fit-here turned fit-here) in
         omega (arith, a, b, c, d);
     reads_in = λ a e.
         let b = fine.reads_in a e in
         let c = stop-trees_before move (reads a) in
-        let d = stop-trees_behind move (reads a) in
+        let d = stop_trees_behind move (reads a) in
         let g = turned-reads move.name move.old (fit_parts f.names move.old fit-here).2 a e turned in
         let h = no_times (reads a move.old) in
         omega (arith, b, c, d, g, h);
     targets-in = λ a e.
         let b = fine.targets-in a e in
         let c = stop-trees_before move (targets a) in
-        let d = stop-trees_behind move (targets a) in
+        let d = stop_trees_behind move (targets a) in
         let g = turned-targets move.name move.old (fit_parts f.names move.old fit-here).2 a e turned in
         let h = no_times (targets a move.old) in
         omega (arith, b, c, d, g, h);
@@ -81,15 +81,15 @@ module _ (f : File) (P Q : List Statement) (move : StopAt (context_of f) P Q) (f
         let a = fine.no-evals in
         let b = stop-before move (λ d. one (eval_whole f.names d.initializer)) (λ t. 0) in
         let c = stop-behind move (λ d. one (eval_whole f.names d.initializer)) (λ t. 0) in
-        let e = eval-there f.names move.place move.old move.new (λ g. eval-turned f.names move.name move.old fit-here turned g g) (omega (arith, a, b)) in
+        let e = eval_there f.names move.place move.old move.new (λ g. eval_turned f.names move.name move.old fit-here turned g g) (omega (arith, a, b)) in
         omega (arith, a, b, c, e);
   }
 
 -- an empty declaration that was dropped
 module _ (f : File) (P Q : List Statement) (move : DropAt (context_of f) P Q) (fine : Fine f P) where
   -- the program without it is as fine
-  pub drop-fine : Fine f Q
-  drop-fine = record {
+  pub drop_fine : Fine f Q
+  drop_fine = record {
     fits = let a = fine.fits in let b = drop-sum move (of_initializer (misfit f.names)) (misfit f.names) in omega (arith, a, b);
     reads_in = λ a e. let b = fine.reads_in a e in let c = drop-sum move (of_initializer (reads a)) (reads a) in omega (arith, b, c);
     targets-in = λ a e. let b = fine.targets-in a e in let c = drop-sum move (of_initializer (targets a)) (targets a) in omega (arith, b, c);

@@ -39,13 +39,13 @@ pub fit-whole : (names : List NameFacts) (t : Tree) → placed t ≡ true → we
 unfolding fit
 fit-whole names t a b c d = rw (a, b, c, d)
 
-at-eval : (names : List NameFacts) (p : ℕ) (t : Tree) → eval_whole names (given (at p t)) ≡ eval_whole names (given t)
+at_eval : (names : List NameFacts) (p : ℕ) (t : Tree) → eval_whole names (given (at p t)) ≡ eval_whole names (given t)
 unfolding eval_whole at
-at-eval names p (node n ts) = refl
+at_eval names p (node n ts) = refl
 
-apart-eval : (names : List NameFacts) (t : Tree) → eval_whole names (given (preserve_indirect_access t)) ≡ false
+apart_eval : (names : List NameFacts) (t : Tree) → eval_whole names (given (preserve_indirect_access t)) ≡ false
 unfolding eval_whole preserve_indirect_access
-apart-eval names (node n ts) = refl
+apart_eval names (node n ts) = refl
 
 clear_eval : (names : List NameFacts) (n : Node) (ts us : Trees) → eval_whole names (given (node (cleared n) us)) ≡ eval_whole names (given (node n ts))
 unfolding eval_whole cleared
@@ -58,18 +58,18 @@ module _ (names : List NameFacts) (v : ℕ) (r : Tree) (fits : fit names r ≡ t
       let (x, y, z, w) = fit_parts names r fits in
       fit-whole names u (placed-turned v r z x w h a) (well-turned names h y b) (expression-turned v r z x w h c) (unchained-turned v r z x w h d)
 
-  pub eval-turned : {k : ℕ} {t u : Tree} → Turned v r k t u → eval_whole names (given r) ≡ false → eval_whole names (given t) ≡ false → eval_whole names (given u) ≡ false
-  eval-turned (same e p) h g = rw p g
-  eval-turned (here {n = n} e q p) h g = rw (p, at-eval names n.position r) h
-  eval-turned (apart t' e q i p) h g = rw p (apart-eval names t')
-  eval-turned (under {n = n} {ts = ts} ts' i p) h g = rw (p, clear_eval names n ts ts') g
+  pub eval_turned : {k : ℕ} {t u : Tree} → Turned v r k t u → eval_whole names (given r) ≡ false → eval_whole names (given t) ≡ false → eval_whole names (given u) ≡ false
+  eval_turned (same e p) h g = rw p g
+  eval_turned (here {n = n} e q p) h g = rw (p, at_eval names n.position r) h
+  eval_turned (apart t' e q i p) h g = rw p (apart_eval names t')
+  eval_turned (under {n = n} {ts = ts} ts' i p) h g = rw (p, clear_eval names n ts ts') g
 
 -- `eval` in a place
-pub eval-there : (names : List NameFacts) (p : Place) (t u : Tree) → (eval_whole names (given t) ≡ false → eval_whole names (given u) ≡ false) → there (λ d. one (eval_whole names d.initializer)) (λ t. 0) p t ≡ 0 → there (λ d. one (eval_whole names d.initializer)) (λ t. 0) p u ≡ 0
+pub eval_there : (names : List NameFacts) (p : Place) (t u : Tree) → (eval_whole names (given t) ≡ false → eval_whole names (given u) ≡ false) → there (λ d. one (eval_whole names d.initializer)) (λ t. 0) p t ≡ 0 → there (λ d. one (eval_whole names d.initializer)) (λ t. 0) p u ≡ 0
 unfolding there
-eval-there names (declarator d ds) t u h e = one_none (eval_whole names (given u)) (h (one_on (eval_whole names (given t)) e))
-eval-there names statement t u h e = refl
-eval-there names (initializer k d ds) t u h e = one_none (eval_whole names (given u)) (h (one_on (eval_whole names (given t)) e))
+eval_there names (declarator d ds) t u h e = one_none (eval_whole names (given u)) (h (one_on (eval_whole names (given t)) e))
+eval_there names statement t u h e = refl
+eval_there names (initializer k d ds) t u h e = one_none (eval_whole names (given u)) (h (one_on (eval_whole names (given t)) e))
 
 pub misfit-none : (names : List NameFacts) (t : Tree) → fit names t ≡ true → misfit names t ≡ 0
 misfit-none names t e = one_not (fit names t) e

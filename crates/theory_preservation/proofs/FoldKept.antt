@@ -36,14 +36,14 @@ use Rattle.theory_preservation.proofs.Turned.{Turned, replaced-turned}
 use Rattle.theory_preservation.proofs.Counts.{turned-reads, turned-targets, found, one_time}
 use Rattle.theory_preservation.proofs.Places.{FreeBehind, fold-program}
 use Rattle.theory_preservation.proofs.Moves.{FoldAt}
-use Rattle.theory_preservation.proofs.Totals.{of_initializer, there, there-declared, trees, declarations, program-uses, declaring}
+use Rattle.theory_preservation.proofs.Totals.{of_initializer, there, there-declared, declarations, program-uses, declaring}
 use Rattle.theory_preservation.proofs.Fine.{unblocked_trees, Accepted, Fine, searched-name, unblocked_at}
-use Rattle.theory_preservation.proofs.Fit.{fit, misfit, fit_parts, fit-turned, eval-turned, eval-there, misfit-none}
+use Rattle.theory_preservation.proofs.Fit.{fit, misfit, fit_parts, fit-turned, eval_turned, eval_there, misfit-none}
 use Rattle.theory_preservation.proofs.Declared.{free-behind, declared-found}
 use Rattle.theory_preservation.proofs.Positions.{somewhere, some-turned}
-use Rattle.theory_preservation.proofs.Sums.{fold-rest, fold-before, fold-behind, fold-trees_before, fold-trees_behind, fold-declared}
+use Rattle.theory_preservation.proofs.Sums.{fold-rest, fold-before, fold-behind, fold-trees_before, fold_trees_behind, fold-declared}
 
-pub other_way : (a b : ℕ) → eqb a b ≡ false → eqb b a ≡ false
+other_way : (a b : ℕ) → eqb a b ≡ false → eqb b a ≡ false
 other_way a b e = ne_eqb b a (λ q. eqb-false a b e (sym q))
 
 module _ (f : File) (P Q : List Statement) (φ : Fold) (move : FoldAt (context_of f) P Q φ) (accepted : Accepted f) (fine : Fine f P) where
@@ -112,11 +112,11 @@ module _ (f : File) (P Q : List Statement) (φ : Fold) (move : FoldAt (context_o
   pub fits-here : (fit names t ≡ true) × (fit names r ≡ true)
   fits-here = let a = fine.fits in let b = fold-trees_before move (misfit names) in (one-off (fit names t) (omega (arith, a, b)), one-off (fit names r) (omega (arith, a, b)))
 
-  pub eval-here : eval_whole names (given r) ≡ false
-  eval-here = let a = fine.no-evals in let b = fold-before move (λ d. one (eval_whole names d.initializer)) (λ t. 0) in one_on (eval_whole names (given r)) (omega (arith, a, b))
+  pub eval_here : eval_whole names (given r) ≡ false
+  eval_here = let a = fine.no-evals in let b = fold-before move (λ d. one (eval_whole names d.initializer)) (λ t. 0) in one_on (eval_whole names (given r)) (omega (arith, a, b))
 
   no_eval-here : (eqb (root r).kind 4 && is_eval (flags_of names (root r).label)) ≡ false
-  no_eval-here = unfold eval_whole in eval-here
+  no_eval-here = unfold eval_whole in eval_here
 
   apart-here : (a : ℕ) → settled f a ≡ true → targets a r ≡ 0
   apart-here a e =
@@ -179,28 +179,28 @@ module _ (f : File) (P Q : List Statement) (φ : Fold) (move : FoldAt (context_o
       let a = fold-trees_before move (λ t. one (somewhere (unblocked_at f) t)) in
       by_or (somewhere (unblocked_at f) t) (somewhere (unblocked_at f) r) (λ g. fine.this-in (let d = one_of (somewhere (unblocked_at f) t) g in omega (arith, a, d))) (λ g. fine.this-in (let d = one_of (somewhere (unblocked_at f) r) g in omega (arith, a, d))) (some-turned (unblocked_at f) turned e)
   fold-this false e h =
-      fine.this-in (let a = fold-trees_before move (λ t. one (somewhere (unblocked_at f) t)) in let d = fold-trees_behind move (λ t. one (somewhere (unblocked_at f) t)) in let k = one_none (somewhere (unblocked_at f) t') e in omega (arith, a, d, k, h))
+      fine.this-in (let a = fold-trees_before move (λ t. one (somewhere (unblocked_at f) t)) in let d = fold_trees_behind move (λ t. one (somewhere (unblocked_at f) t)) in let k = one_none (somewhere (unblocked_at f) t') e in omega (arith, a, d, k, h))
 
   -- it is as fine
-  pub fold-fine : Fine f Q
-  fold-fine = record {
+  pub fold_fine : Fine f Q
+  fold_fine = record {
     fits =
         let a = fine.fits in
         let b = fold-trees_before move (misfit names) in
-        let c = fold-trees_behind move (misfit names) in
+        let c = fold_trees_behind move (misfit names) in
         let d = misfit-none names t' (fit-turned names v r fits-here.1 turned fits-here.0) in
         omega (arith, a, b, c, d);
     reads_in = λ a e.
         let b = fine.reads_in a e in
         let c = fold-trees_before move (reads a) in
-        let d = fold-trees_behind move (reads a) in
+        let d = fold_trees_behind move (reads a) in
         let g = turned-reads v r (fit_parts names r fits-here.1).2 a e turned in
         let h = one_time (reads a r) in
         omega (arith, b, c, d, g, h);
     targets-in = λ a e.
         let b = fine.targets-in a e in
         let c = fold-trees_before move (targets a) in
-        let d = fold-trees_behind move (targets a) in
+        let d = fold_trees_behind move (targets a) in
         let g = turned-targets v r (fit_parts names r fits-here.1).2 a e turned in
         let h = one_time (targets a r) in
         omega (arith, b, c, d, g, h);
@@ -210,7 +210,7 @@ module _ (f : File) (P Q : List Statement) (φ : Fold) (move : FoldAt (context_o
         let a = fine.no-evals in
         let b = fold-before move (λ d. one (eval_whole names d.initializer)) (λ t. 0) in
         let c = fold-behind move (λ d. one (eval_whole names d.initializer)) (λ t. 0) in
-        let e = eval-there names move.place t t' (λ g. eval-turned names v r fits-here.1 turned eval-here g) (omega (arith, a, b)) in
+        let e = eval_there names move.place t t' (λ g. eval_turned names v r fits-here.1 turned eval_here g) (omega (arith, a, b)) in
         omega (arith, a, b, c, e);
   }
 
@@ -224,12 +224,3 @@ module _ (f : File) (P Q : List Statement) (φ : Fold) (move : FoldAt (context_o
       let h = fold-behind move (declaring v) (λ t. 0) in
       let i = there-declared v move.place t t' in
       omega (arith, c, d, e, g, h, i)
-
-  -- and it is no target in a program that is fine
-  pub never-aimed : (R : List Statement) → Fine f R → trees (targets φ.name) R ≡ 0
-  never-aimed R there =
-      let (e, g, h, i) = asked-name in
-      let (b, c) = within-counts in
-      let l = there.targets-in v (other_way v no_number e) in
-      let q = program-uses (λ n kids. target_name n) v f.statements in
-      omega (arith, i, c, l, q)

@@ -176,7 +176,7 @@ module _ {Value Rest : Type 0} (names : List NameFacts) (m : Meaning Value Rest)
   acted-whole l (done u s) = gives tt
   acted-whole l stops = halts tt
 
-  pub stepped-whole : (t : Bool) (x : Step Value) (s : State Value Rest) → Whole (stepped m t x s)
+  stepped-whole : (t : Bool) (x : Step Value) (s : State Value Rest) → Whole (stepped m t x s)
   unfolding stepped
   stepped-whole true x s = acted-whole _ _
   stepped-whole false x s = gives tt
@@ -245,14 +245,14 @@ module _ {Value Rest : Type 0} (names : List NameFacts) (m : Meaning Value Rest)
   uncut-by (stepping conditional) n k e = refl
   uncut-by (stepping optionally) n k e = clash _ e k
 
-  left_of_lem : (x y z : Bool) → (x && (y || z)) ≡ false → (x && y) ≡ false
-  left_of_lem true true z e = e
-  left_of_lem true false z e = refl
-  left_of_lem false y z e = refl
+  left_of : (x y z : Bool) → (x && (y || z)) ≡ false → (x && y) ≡ false
+  left_of true true z e = e
+  left_of true false z e = refl
+  left_of false y z e = refl
 
   uncut : (n : Node) (ts : Trees) → unchained (node n ts) ≡ false → cutting (choice_of (form (cleared n))) ≡ false
   unfolding unchained
-  uncut n ts e = uncut-by (form (cleared n)) (cleared n) (kinds (cleared n)) (unfold cleared in (link_cleared n ∙ left_of_lem (is_chain_element n.kind) (optional n.flags) (unchained_first ts) e))
+  uncut n ts e = uncut-by (form (cleared n)) (cleared n) (kinds (cleared n)) (unfold cleared in (link_cleared n ∙ left_of (is_chain_element n.kind) (optional n.flags) (unchained_first ts) e))
 
   chain-form : (n : Node) → is 13 n ≡ true → is_chain (form n) ≡ true
   unfolding form is_chain order

@@ -55,10 +55,5 @@ pub mod MakesAt
 pub mod SearchWithin
 pub mod MovesWithin
 pub mod Cut
-pub mod KeepAlike
 pub mod CutRuns
--- the run of a file's result by the file's meaning
-pub mod VarOrLet
-pub mod Aimed
-pub mod MeaningOf
 pub mod Unchanged

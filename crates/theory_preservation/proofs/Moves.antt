@@ -12,9 +12,8 @@ use Rattle.walk_rules.specs.Substitute.{Answer, replaced, stopped, passed, subst
 use Rattle.walk_rules.specs.Looks.{looks_in_expression}
 use Rattle.statements_rules.specs.Trace.{Fold, Traced, pure, ◌>>=◌, looked, folded}
 use Rattle.statements_rules.specs.Declarators.{is_unsearched, is_using, ends_search, Searched, with_tree, fold_of, after_answer, from_declarator, substitute_from_declarators, within_declarator, within_declarators, substitute_within_declaration}
-use Rattle.statements_rules.specs.Fold.{folded_file, with_statements, fold_file_by, base_fold_file}
+use Rattle.statements_rules.specs.Fold.{folded_file, with_statements, fold_file}
 use Rattle.statements_rules.specs.Statements.{Kept, statement_of, in_file_order, after_declarators, from_statement, from_statements, substitute_in_statement, in_initializer, in_first_declarator, fold_statement, fold_statements}
-use Rattle.statements_rules.proofs.Base.{base-declaration, base-expression}
 use Rattle.theory_preservation.proofs.Places.{Place, declarator, statement, initializer, declarators_at, statements_at}
 
 -- a program with a tree in a place
@@ -121,7 +120,7 @@ module _ (ctx : Context) where
   declarator-moves before k p after lit d bare earlier t onward b u e n = done refl refl
   declarator-moves before k p after lit d (given r) earlier t onward b u e n = by (ends_search ctx lit d.name r) refl
     where
-      by : (b : Bool) → ends_search ctx lit d.name r ≡ b → Found before k p after (d ∷ earlier) t (cond b (record { result = record { target = t; left = d ∷ earlier }; trace = []; merges = []; searched_nodes = []; looks = 0 }) (looked t (looks_in_expression ctx d.name r t) (after_answer ctx before k d r earlier t (substitute_in_expression ctx d.name r t) onward)))
+      by : (b : Bool) → ends_search ctx lit d.name r ≡ b → Found before k p after (d ∷ earlier) t (cond b (record { result = record { target = t; left = d ∷ earlier }; trace = []; searched_nodes = []; looks = 0 }) (looked t (looks_in_expression ctx d.name r t) (after_answer ctx before k d r earlier t (substitute_in_expression ctx d.name r t) onward)))
       by true g = done refl refl
       by false g = unfold looked in answer-moves before k p after lit d r earlier t (substitute_in_expression ctx d.name r t) onward u e g refl n
 
@@ -153,12 +152,12 @@ module _ (ctx : Context) where
   within_by before k after ds true e = unfold pure in done refl refl
   within_by before k after ds false e = within_all before k after [] ds (neither (is_unsearched ctx) (is_using k) e).1
 
-  pub within-moves : (before : List Statement) (k : DeclarationKind) (after : List Statement) (ds : List Declarator) → Moves (declared before k ds after) (declared before k (substitute_within_declaration ctx before k ds).result after) (substitute_within_declaration ctx before k ds).trace
+  within-moves : (before : List Statement) (k : DeclarationKind) (after : List Statement) (ds : List Declarator) → Moves (declared before k ds after) (declared before k (substitute_within_declaration ctx before k ds).result after) (substitute_within_declaration ctx before k ds).trace
   unfolding substitute_within_declaration
   within-moves before k after ds = within_by before k after ds (is_unsearched ctx || is_using k) refl
 
   -- From statements, the last first.
-  pub in_order_lem : (k : Kept) (earlier : List Kept) (xs : List Statement) → in_file_order (k ∷ earlier) ++ xs ≡ in_file_order earlier ++ (k.statement ∷ xs)
+  in_order_lem : (k : Kept) (earlier : List Kept) (xs : List Statement) → in_file_order (k ∷ earlier) ++ xs ≡ in_file_order earlier ++ (k.statement ∷ xs)
   in_order_lem k earlier xs =
       ap (λ l. map statement_of l ++ xs) (reverse-cons k earlier)
       ∙ ap (λ l. l ++ xs) (map-append statement_of (reverse earlier) (k ∷ []))
@@ -190,7 +189,7 @@ module _ (ctx : Context) where
             ∙ ap (λ s. in_file_order earlier ++ (s ∷ statements_at p t after)) e
             ∙ ap (λ ds. in_file_order earlier ++ (declaration kind ds ∷ statements_at p t after)) (sym (ap (λ es. reverse (reverse ds) ++ es) (bare-place t) ∙ append-nil (reverse (reverse ds)) ∙ reverse-reverse ds))
 
-        by : (b : Bool) → is_using kind ≡ b → Before (k ∷ earlier) t (cond b (record { result = record { target = t; left = k ∷ earlier }; trace = []; merges = []; searched_nodes = []; looks = 0 }) (w >>= λ w. after_declarators ctx k kind earlier w.target w.left onward))
+        by : (b : Bool) → is_using kind ≡ b → Before (k ∷ earlier) t (cond b (record { result = record { target = t; left = k ∷ earlier }; trace = []; searched_nodes = []; looks = 0 }) (w >>= λ w. after_declarators ctx k kind earlier w.target w.left onward))
         by true u = done refl refl
         by false u = unfold ◌>>=◌ in same-moves as_before refl refl (then-moves (declarators-moves (in_file_order earlier) kind p after (non_scoped_literal_only ctx) (reverse ds) t u) (left-moves k kind earlier w.result.target w.result.left onward n))
     statement-moves k (expression x) earlier t onward e n = done refl refl
@@ -201,16 +200,16 @@ module _ (ctx : Context) where
     statements-moves [] t = done refl refl
     statements-moves (k ∷ earlier) t = statement-moves k k.statement earlier t (λ t'. from_statements ctx earlier t') refl (λ t'. statements-moves earlier t')
 
-    unsearched-by : (earlier : List Kept) (t : Tree) (b : Bool) → Before earlier t (cond b (record { result = record { target = t; left = earlier }; trace = []; merges = []; searched_nodes = []; looks = 0 }) (from_statements ctx earlier t))
+    unsearched-by : (earlier : List Kept) (t : Tree) (b : Bool) → Before earlier t (cond b (record { result = record { target = t; left = earlier }; trace = []; searched_nodes = []; looks = 0 }) (from_statements ctx earlier t))
     unsearched-by earlier t true = done refl refl
     unsearched-by earlier t false = statements-moves earlier t
 
-    pub in_statement : (earlier : List Kept) (t : Tree) → Before earlier t (substitute_in_statement ctx earlier t)
+    in_statement : (earlier : List Kept) (t : Tree) → Before earlier t (substitute_in_statement ctx earlier t)
     unfolding substitute_in_statement pure
     in_statement earlier t = unsearched-by earlier t (is_unsearched ctx)
 
   -- A statement, and all of them.
-  pub bare-statement : (t : Tree) → declarators_at statement t ≡ []
+  bare-statement : (t : Tree) → declarators_at statement t ≡ []
   unfolding declarators_at
   bare-statement t = refl
 
@@ -228,43 +227,34 @@ module _ (ctx : Context) where
       same-moves (ap (λ d. in_file_order earlier ++ (declaration k (d ∷ ds) ∷ after)) (as_given d t e)) refl (append-nil (substitute_in_statement ctx earlier t).trace)
       (unfold statements_at in in_statement (initializer k d ds) after (bare-initializer k d ds) earlier t)
 
-  pub first-moves : (k : DeclarationKind) (after : List Statement) (earlier : List Kept) (ds : List Declarator) → First k after earlier ds (in_first_declarator ctx earlier ds)
+  first-moves : (k : DeclarationKind) (after : List Statement) (earlier : List Kept) (ds : List Declarator) → First k after earlier ds (in_first_declarator ctx earlier ds)
   unfolding in_first_declarator pure
   first-moves k after earlier [] = done refl refl
   first-moves k after earlier (d ∷ ds) = initializer-moves k after earlier d ds d.initializer refl
 
-  abbrev One : List Kept → Statement → List Statement → Traced (List Kept) → Type 0
-  One earlier s after w = Moves (in_file_order earlier ++ (s ∷ after)) (in_file_order w.result ++ after) w.trace
+  abbrev One : ℕ → List Kept → Statement → List Statement → Type 0
+  One number earlier s after = Moves (in_file_order earlier ++ (s ∷ after)) (in_file_order (fold_statement ctx number earlier s).result ++ after) (fold_statement ctx number earlier s).trace
 
-  declaration-moves : (number : ℕ) (earlier : List Kept) (k : DeclarationKind) (ds : List Declarator) (after : List Statement)
-      → One earlier (declaration k ds) after (in_first_declarator ctx earlier ds >>= λ w. substitute_within_declaration ctx (in_file_order w.left) k w.target >>= λ ds'. pure (record { number = number; statement = declaration k ds' } ∷ w.left))
-  unfolding pure ◌>>=◌
-  declaration-moves number earlier k ds after =
+  one-moves : (number : ℕ) (earlier : List Kept) (s : Statement) (after : List Statement) → One number earlier s after
+  unfolding fold_statement pure ◌>>=◌
+  one-moves number earlier (declaration k ds) after =
       let w : Traced (Searched (List Declarator) Kept) = in_first_declarator ctx earlier ds in
       let x : Traced (List Declarator) = substitute_within_declaration ctx (in_file_order w.result.left) k w.result.target in
       same-moves refl (in_order_lem (record { number = number; statement = declaration k x.result }) w.result.left after) (ap (λ l. w.trace ++ l) (append-nil x.trace))
       (then-moves (first-moves k after earlier ds) (within-moves (in_file_order w.result.left) k after w.result.target))
-
-  expression-moves : (number : ℕ) (earlier : List Kept) (t : Tree) (after : List Statement)
-      → One earlier (expression t) after (substitute_in_statement ctx earlier t >>= λ w. pure (record { number = number; statement = expression w.target } ∷ w.left))
-  unfolding pure ◌>>=◌
-  expression-moves number earlier t after =
+  one-moves number earlier (expression t) after =
       let w : Traced (Searched Tree Kept) = substitute_in_statement ctx earlier t in
       same-moves refl (in_order_lem (record { number = number; statement = expression w.result.target }) w.result.left after) (append-nil w.trace)
       (unfold statements_at in in_statement statement after bare-statement earlier t)
-
-  one-moves : (number : ℕ) (earlier : List Kept) (s : Statement) (after : List Statement) → One earlier s after (fold_statement false ctx number earlier s)
-  one-moves number earlier (declaration k ds) after = subst (One earlier (declaration k ds) after) (sym (base-declaration ctx number earlier k ds)) (declaration-moves number earlier k ds after)
-  one-moves number earlier (expression t) after = subst (One earlier (expression t) after) (sym (base-expression ctx number earlier t)) (expression-moves number earlier t after)
-  one-moves number earlier other after = unfold fold_statement pure in done (in_order_lem (record { number = number; statement = other }) earlier after) refl
+  one-moves number earlier other after = done (in_order_lem (record { number = number; statement = other }) earlier after) refl
 
   -- statements in order, behind those that are done
-  pub all-moves : (number : ℕ) (earlier : List Kept) (ss : List Statement) → Moves (in_file_order earlier ++ ss) (map statement_of (fold_statements false ctx number earlier ss).result) (fold_statements false ctx number earlier ss).trace
+  pub all-moves : (number : ℕ) (earlier : List Kept) (ss : List Statement) → Moves (in_file_order earlier ++ ss) (map statement_of (fold_statements ctx number earlier ss).result) (fold_statements ctx number earlier ss).trace
   unfolding fold_statements pure ◌>>=◌
   all-moves number earlier [] = done (sym (append-nil (in_file_order earlier))) refl
-  all-moves number earlier (s ∷ ss) = then-moves (one-moves number earlier s ss) (all-moves (number + 1) (fold_statement false ctx number earlier s).result ss)
+  all-moves number earlier (s ∷ ss) = then-moves (one-moves number earlier s ss) (all-moves (number + 1) (fold_statement ctx number earlier s).result ss)
 
--- the base fold of a file, move by move
-pub file-moves : (f : File) → Moves (context_of f) f.statements (base_fold_file f).file.statements (base_fold_file f).trace
-unfolding fold_file_by folded_file with_statements
+-- the fold of a file, move by move
+pub file-moves : (f : File) → Moves (context_of f) f.statements (fold_file f).file.statements (fold_file f).trace
+unfolding fold_file folded_file with_statements
 file-moves f = all-moves (context_of f) 0 [] f.statements

@@ -21,8 +21,8 @@ use Rattle.theory_preservation.proofs.Places.{Place, declarator, statement, init
 use Rattle.theory_preservation.proofs.Moves.{Moves, FoldAt, StopAt, DropAt, done, fold, stop, drop}
 use Rattle.theory_preservation.proofs.Fine.{Accepted, Fine}
 use Rattle.theory_preservation.proofs.Fit.{fit_parts}
-use Rattle.theory_preservation.proofs.FineKept.{fit-here, stop-fine, drop-fine}
-use Rattle.theory_preservation.proofs.FoldKept.{known-name, fits-here, eval-here, fold-fine}
+use Rattle.theory_preservation.proofs.FineKept.{fit-here, stop_fine, drop_fine}
+use Rattle.theory_preservation.proofs.FoldKept.{known-name, fits-here, eval_here, fold_fine}
 use Rattle.theory_preservation.proofs.Within.{Within, WithinDeclarator, declarator-made, WithinDeclarators, WithinProgram, WithinFold, initializer-within, first_part, other-parts, join_first, none_made, parts, join}
 use Rattle.theory_preservation.proofs.SearchWithin.{Placeable, replaced-within, stopped-within}
 
@@ -41,7 +41,7 @@ module _ (Value : Type 0) (f : File) where
   same-values t u [] = refl
   same-values t u (h ∷ hs) = refl
 
-  pub other-initializer : (k : DeclarationKind) (a : ℕ) (t u : Tree) → WithinDeclarator Value f k a (given t) → Within Value f value u → WithinDeclarator Value f k a (given u)
+  other-initializer : (k : DeclarationKind) (a : ℕ) (t u : Tree) → WithinDeclarator Value f k a (given t) → Within Value f value u → WithinDeclarator Value f k a (given u)
   unfolding makes_declarator makes_marked
   other-initializer k a t u h g d x e =
       by_or (makes_in names d x u value) _ (λ q. g d x q)
@@ -51,19 +51,19 @@ module _ (Value : Type 0) (f : File) where
   abbrev statement-made : Asked → Step Value → Statement → Bool
   statement-made d x s = makes_statement names d x s
 
-  pub first-declaration : (k : DeclarationKind) (ds : List Declarator) (after : List Statement) → WithinProgram Value f (declaration k ds ∷ after) → WithinDeclarators Value f k ds × WithinProgram Value f after
+  first-declaration : (k : DeclarationKind) (ds : List Declarator) (after : List Statement) → WithinProgram Value f (declaration k ds ∷ after) → WithinDeclarators Value f k ds × WithinProgram Value f after
   unfolding makes_statement
   first-declaration k ds after h = (first_part Value f statement-made (declaration k ds) after h, other-parts Value f statement-made (declaration k ds) after h)
 
-  pub join-declaration : (k : DeclarationKind) (ds : List Declarator) (after : List Statement) → WithinDeclarators Value f k ds → WithinProgram Value f after → WithinProgram Value f (declaration k ds ∷ after)
+  join-declaration : (k : DeclarationKind) (ds : List Declarator) (after : List Statement) → WithinDeclarators Value f k ds → WithinProgram Value f after → WithinProgram Value f (declaration k ds ∷ after)
   unfolding makes_statement
   join-declaration k ds after h g = join_first Value f statement-made (declaration k ds) after h g
 
-  pub first-expression : (t : Tree) (after : List Statement) → WithinProgram Value f (expression t ∷ after) → Within Value f value t × WithinProgram Value f after
+  first-expression : (t : Tree) (after : List Statement) → WithinProgram Value f (expression t ∷ after) → Within Value f value t × WithinProgram Value f after
   unfolding makes_statement
   first-expression t after h = (first_part Value f statement-made (expression t) after h, other-parts Value f statement-made (expression t) after h)
 
-  pub join-expression : (t : Tree) (after : List Statement) → Within Value f value t → WithinProgram Value f after → WithinProgram Value f (expression t ∷ after)
+  join-expression : (t : Tree) (after : List Statement) → Within Value f value t → WithinProgram Value f after → WithinProgram Value f (expression t ∷ after)
   unfolding makes_statement
   join-expression t after h g = join_first Value f statement-made (expression t) after h g
 
@@ -93,14 +93,14 @@ module _ (Value : Type 0) (f : File) where
       (h, join-declaration k' (with_tree d u ∷ ds) after (other-tree k' d ds t u a w) b)
 
   -- A program with such a place: its parts, and from its parts.
-  pub site_parts : (before : List Statement) (k : DeclarationKind) (ds es : List Declarator) (after : List Statement) → WithinProgram Value f (before ++ (declaration k (ds ++ es) ∷ after)) → WithinProgram Value f before × WithinDeclarators Value f k ds × WithinDeclarators Value f k es × WithinProgram Value f after
+  site_parts : (before : List Statement) (k : DeclarationKind) (ds es : List Declarator) (after : List Statement) → WithinProgram Value f (before ++ (declaration k (ds ++ es) ∷ after)) → WithinProgram Value f before × WithinDeclarators Value f k ds × WithinDeclarators Value f k es × WithinProgram Value f after
   site_parts before k ds es after h =
       let (a, b) = parts Value f statement-made before (declaration k (ds ++ es) ∷ after) h in
       let (c, d) = first-declaration k (ds ++ es) after b in
       let (x, y) = parts Value f (declarator-made Value f k) ds es c in
       (a, x, y, d)
 
-  pub site_join : (before : List Statement) (k : DeclarationKind) (ds es : List Declarator) (after : List Statement) → WithinProgram Value f before → WithinDeclarators Value f k ds → WithinDeclarators Value f k es → WithinProgram Value f after → WithinProgram Value f (before ++ (declaration k (ds ++ es) ∷ after))
+  site_join : (before : List Statement) (k : DeclarationKind) (ds es : List Declarator) (after : List Statement) → WithinProgram Value f before → WithinDeclarators Value f k ds → WithinDeclarators Value f k es → WithinProgram Value f after → WithinProgram Value f (before ++ (declaration k (ds ++ es) ∷ after))
   site_join before k ds es after a b c d = join Value f statement-made before (declaration k (ds ++ es) ∷ after) a (join-declaration k (ds ++ es) after (join Value f (declarator-made Value f k) ds es b c) d)
 
   stop-within : (P Q : List Statement) → StopAt (context_of f) P Q → Fine f P → WithinProgram Value f P → WithinProgram Value f Q
@@ -125,7 +125,7 @@ module _ (Value : Type 0) (f : File) where
       let c : WithinDeclarators Value f move.kind (declarators_at p φ.into) = other-parts Value f (declarator-made Value f move.kind) d₀ (declarators_at p φ.into) e in
       let old : Within Value f value φ.into = place-tree move.kind p φ.into move.after (c, d) in
       let fits = fits-here f P Q φ move accepted fine in
-      let placeable : Placeable Value f φ.name φ.initializer = record { steps = r; expression = (fit_parts names φ.initializer fits.1).2; standing = (fit_parts names φ.initializer fits.1).0; no-eval = eval-here f P Q φ move accepted fine; plain = (known-name f P Q φ move accepted fine).1 } in
+      let placeable : Placeable Value f φ.name φ.initializer = record { steps = r; expression = (fit_parts names φ.initializer fits.1).2; standing = (fit_parts names φ.initializer fits.1).0; no-eval = eval_here f P Q φ move accepted fine; plain = (known-name f P Q φ move accepted fine).1 } in
       let new = replaced-within Value f φ.name φ.initializer (context_of f) φ.into move.tree (fit_parts names φ.into fits.0).0 move.placed placeable old in
       let (x, y) = place_other move.kind p φ.into move.tree move.after (c, d) new in (
         (subst (λ X. WithinProgram Value f X) (sym move.stood) (join Value f statement-made move.before (declaration move.kind move.earlier ∷ []) a (join-declaration move.kind move.earlier [] b (none_made Value f statement-made))), r, old),
@@ -137,7 +137,7 @@ module _ (Value : Type 0) (f : File) where
   moves-within (done e g) accepted fine h = (rw g tt, rw e h)
   moves-within {P = P} (fold M φ ψs m e k) accepted fine h =
       let (x, y) = fold-within P M φ m accepted fine h in
-      let (z, w) = moves-within k accepted (fold-fine f P M φ m accepted fine) y in
+      let (z, w) = moves-within k accepted (fold_fine f P M φ m accepted fine) y in
       (rw e (x, z), w)
-  moves-within {P = P} (stop M m k) accepted fine h = moves-within k accepted (stop-fine f P M m fine) (stop-within P M m fine h)
-  moves-within {P = P} (drop M m k) accepted fine h = moves-within k accepted (drop-fine f P M m fine) (drop-within P M m h)
+  moves-within {P = P} (stop M m k) accepted fine h = moves-within k accepted (stop_fine f P M m fine) (stop-within P M m fine h)
+  moves-within {P = P} (drop M m k) accepted fine h = moves-within k accepted (drop_fine f P M m fine) (drop-within P M m h)

@@ -1,4 +1,4 @@
--- The facts of a file, asked of every step: they are true of the meaning that is cut down to the file (Cut).
+-- The facts of a file, asked of every step. They are true of the meaning that is cut down to the file (Cut).
 use Prim.Native.Nat.{ℕ}
 use mathlib.Core.Bool.{true, false}
 use mathlib.Core.List.{List}
@@ -9,7 +9,7 @@ use Rattle.theory_runs.specs.Store.{Store}
 use Rattle.theory_runs.specs.Step.{Step}
 use Rattle.theory_runs.specs.Meaning.{done, Meaning}
 use Rattle.theory_runs.specs.Settled.{settled}
-use Rattle.theory_runs.specs.Facts.{reads_stand, writes_stand, this_unblocked, through, is_of_node, AgreeBut, ActsAlike, Each, FoldKeeps, this_step, Facts}
+use Rattle.theory_runs.specs.Facts.{reads_stand, writes_stand, this_unblocked, through, is_of_node, AgreeBut, ActsAlike, Each, FoldKeeps, this_step}
 
 pub record FactsOfAll {Value Rest : Type 0} (f : File) (trace : List Fold) (m : Meaning Value Rest) (start : Store Value Rest) : Type 0 where
   pub reads_hidden : (a : ℕ) → reads_stand f a ≡ true → (x : Step Value) → through a x ≡ false
@@ -26,15 +26,3 @@ pub record FactsOfAll {Value Rest : Type 0} (f : File) (trace : List Fold) (m : 
       → (s s' : Store Value Rest) (w : Value) → m.acts x s ≡ done w s' → (label flags : ℕ)
       → m.reads (this_step label flags) s' ≡ m.reads (this_step label flags) s
   pub targets-kept : Each (FoldKeeps f.names m start) trace
-
--- the facts of a file with those of other folds
-pub facts-with : {Value Rest : Type 0} (f : File) (trace φs : List Fold) (m : Meaning Value Rest) (start : Store Value Rest) → Facts f trace m start → Each (FoldKeeps f.names m start) φs → Facts f φs m start
-facts-with f trace φs m start facts kept = record {
-  reads_hidden = facts.reads_hidden;
-  chooses_hidden = facts.chooses_hidden;
-  acts_hidden = facts.acts_hidden;
-  writes_hidden = facts.writes_hidden;
-  settled-kept = facts.settled-kept;
-  this-kept = facts.this-kept;
-  targets-kept = kept;
-}

@@ -20,7 +20,7 @@ use Rattle.theory_preservation.proofs.Setting.{Setting}
 use Rattle.theory_preservation.proofs.Passing.{Forgets, bind_assoc, gave-bind, drop}
 use Rattle.theory_preservation.proofs.Placing as P
 use Rattle.theory_preservation.proofs.Sound.{Asked}
-use Rattle.theory_preservation.proofs.Program.{FreeDeclarators, FreeStatements, then-on, declarators-on, statements-on, with-on, gives-on}
+use Rattle.theory_preservation.proofs.Program.{FreeDeclarators, FreeStatements, then-on, declarators-on, statements-on, with_on, gives-on}
 use Rattle.theory_preservation.proofs.Site.{rest-run, fold_site}
 
 pub data Place : Type 0 where
@@ -88,9 +88,9 @@ module _ {Value Rest : Type 0} (σ : Setting Value Rest) where
 
   behind-on : (k : DeclarationKind) (p : Place) (after : List Statement) → FreeBehind v p after → (w : Value) → Forgets σ (behind names m k p after w)
   unfolding behind
-  behind-on k (declarator d ds) after (e, h, g) w = then-on σ (declares_with m k d.name w) (λ u s'. rest-run names m k ds after s') (with-on σ k d.name w e) (λ u. rest-on k ds after h g)
+  behind-on k (declarator d ds) after (e, h, g) w = then-on σ (declares_with m k d.name w) (λ u s'. rest-run names m k ds after s') (with_on σ k d.name w e) (λ u. rest-on k ds after h g)
   behind-on k statement after g w = then-on σ (gives w) (λ u s'. run_statements names m after s') (gives-on σ w) (λ u. statements-on σ after g)
-  behind-on k (initializer k' d ds) after (e, h, g) w = then-on σ (declares_with m k' d.name w) (λ u s'. rest-run names m k' ds after s') (with-on σ k' d.name w e) (λ u. rest-on k' ds after h g)
+  behind-on k (initializer k' d ds) after (e, h, g) w = then-on σ (declares_with m k' d.name w) (λ u s'. rest-run names m k' ds after s') (with_on σ k' d.name w e) (λ u. rest-on k' ds after h g)
 
   -- One fold in a program keeps its run, the value of v apart.
   pub fold-program : (before : List Statement) (k : DeclarationKind) (ds : List Declarator) (p : Place) (after : List Statement) (t t' : Tree) (s₀ : State Value Rest)

@@ -125,13 +125,13 @@ module _ {Value Rest : Type 0} (σ : Setting Value Rest) where
   either-on true c d h g = h
   either-on false c d h g = g
 
-  pub with-on : (k : DeclarationKind) (n : ℕ) (w : Value) → eqb n v ≡ false → Alike (declares_with m k n w)
+  pub with_on : (k : DeclarationKind) (n : ℕ) (w : Value) → eqb n v ≡ false → Alike (declares_with m k n w)
   unfolding declares_with
-  with-on Var n w e = either-on (is_pattern n) (binds m Var n (only w ∷ [])) (sets n w) (binds-on Var n _ e) (sets-on n w e)
-  with-on Let n w e = either-on (is_pattern n) (binds m Let n (only w ∷ [])) (sets n w) (binds-on Let n _ e) (sets-on n w e)
-  with-on Const n w e = either-on (is_pattern n) (binds m Const n (only w ∷ [])) (sets n w) (binds-on Const n _ e) (sets-on n w e)
-  with-on Using n w e = binds-on Using n (only w ∷ []) e
-  with-on AwaitUsing n w e = binds-on AwaitUsing n (only w ∷ []) e
+  with_on Var n w e = either-on (is_pattern n) (binds m Var n (only w ∷ [])) (sets n w) (binds-on Var n _ e) (sets-on n w e)
+  with_on Let n w e = either-on (is_pattern n) (binds m Let n (only w ∷ [])) (sets n w) (binds-on Let n _ e) (sets-on n w e)
+  with_on Const n w e = either-on (is_pattern n) (binds m Const n (only w ∷ [])) (sets n w) (binds-on Const n _ e) (sets-on n w e)
+  with_on Using n w e = binds-on Using n (only w ∷ []) e
+  with_on AwaitUsing n w e = binds-on AwaitUsing n (only w ∷ []) e
 
   tree-on : (t : Tree) → FreeTree v t → Alike (run names m t value)
   tree-on t (h, g) = framed_forgets σ (run names m t value) (λ a s. frame names m v (Put v a) (put_unseen nothing_Hidden a) t h g value s)
@@ -139,7 +139,7 @@ module _ {Value Rest : Type 0} (σ : Setting Value Rest) where
   pub declarator-on : (k : DeclarationKind) (n : ℕ) (i : Initializer) → eqb n v ≡ false → FreeInitializer v i → Alike (run_declarator names m k n i)
   unfolding run_declarator
   declarator-on k n bare e h = bare-on k n e
-  declarator-on k n (given t) e h = then-on (run names m t value) (λ x s'. declares_with m k n x.value s') (tree-on t h) (λ x. with-on k n x.value e)
+  declarator-on k n (given t) e h = then-on (run names m t value) (λ x s'. declares_with m k n x.value s') (tree-on t h) (λ x. with_on k n x.value e)
 
   -- declarators that neither use nor declare v run alike
   pub declarators-on : (k : DeclarationKind) (ds : List Declarator) → FreeDeclarators v ds → Alike (run_declarators names m k ds)

@@ -172,18 +172,18 @@ module _ {Value Rest : Type 0} (σ : Setting Value Rest) where
   plain-target true n t ts e (a, b, c, l) g d s u k z = target_why σ t (a, z, b, g, c) l (λ x s' w. u x s' w refl (unmarked t g) (le-leb 1 (all_reads v ts) k)) d
   plain-target false n t ts e (a, b, c, l) g d s u k z = by-still σ t target z b e g
 
-  assign-by : (c x b : Bool) (n : Node) (t : Tree) (ts : Trees) → may_have_side_effects r ≡ x → Aimed t → (may_have_side_effects t || c && x || x && may_depend_on_side_effect ctx t) ≡ b → Links σ (cond b none_at_all behind) (assignment c) n t ts
+  assign_by : (c x b : Bool) (n : Node) (t : Tree) (ts : Trees) → may_have_side_effects r ≡ x → Aimed t → (may_have_side_effects t || c && x || x && may_depend_on_side_effect ctx t) ≡ b → Links σ (cond b none_at_all behind) (assignment c) n t ts
   unfolding choice_of next
-  assign-by c x true n t ts e a h = tt
-  assign-by true true false n t ts e a h = clash (true && true) (neither (may_have_side_effects t) true (neither (may_have_side_effects t || true) _ h).0).1 refl
-  assign-by true false false n t ts e a h = ((λ s u k z. by-still σ t _ z a.1 e (neither (may_have_side_effects t) false (neither (may_have_side_effects t || false) false h).0).0), choose (unchanging σ e) (λ w l. tt))
-  assign-by false x false n t ts e a h =
+  assign_by c x true n t ts e a h = tt
+  assign_by true true false n t ts e a h = clash (true && true) (neither (may_have_side_effects t) true (neither (may_have_side_effects t || true) _ h).0).1 refl
+  assign_by true false false n t ts e a h = ((λ s u k z. by-still σ t _ z a.1 e (neither (may_have_side_effects t) false (neither (may_have_side_effects t || false) false h).0).0), choose (unchanging σ e) (λ w l. tt))
+  assign_by false x false n t ts e a h =
       let (p, q) = neither (may_have_side_effects t || false) (x && may_depend_on_side_effect ctx t) h in
       ((λ s u k z. plain-target x n t ts e a (neither (may_have_side_effects t) false p).0 q s u k z), straight refl tt)
 
   assign_links : (c : Bool) (n : Node) (t : Tree) (ts : Trees) → Aimed t → Links σ (cond (stops_at_target ctx r c t) none_at_all behind) (assignment c) n t ts
   unfolding stops_at_target
-  assign_links c n t ts a = assign-by c (may_have_side_effects r) (may_have_side_effects t || c && may_have_side_effects r || may_have_side_effects r && may_depend_on_side_effect ctx t) n t ts refl a refl
+  assign_links c n t ts a = assign_by c (may_have_side_effects r) (may_have_side_effects t || c && may_have_side_effects r || may_have_side_effects r && may_depend_on_side_effect ctx t) n t ts refl a refl
 
   chained-target : (n : Node) (t : Tree) (ts : Trees) → is 20 n ≡ true → stand_under n 0 (more t ts) ≡ true → unchained t ≡ false
   unfolding may_be_unchained

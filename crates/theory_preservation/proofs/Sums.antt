@@ -36,8 +36,8 @@ module _ {ctx : Context} {P Q : List Statement} {φ : Fold} (move : FoldAt ctx P
   pub fold-trees_before : (w : Tree → ℕ) → trees w P ≡ fold-rest (of_initializer w) w + w φ.into + w φ.initializer
   fold-trees_before w = let a = fold-before (of_initializer w) w in let b = there-tree w move.place φ.into in let c = given-weight w in omega (arith, a, b, c)
 
-  pub fold-trees_behind : (w : Tree → ℕ) → trees w Q ≡ fold-rest (of_initializer w) w + w move.tree
-  fold-trees_behind w = let a = fold-behind (of_initializer w) w in let b = there-tree w move.place move.tree in omega (arith, a, b)
+  pub fold_trees_behind : (w : Tree → ℕ) → trees w Q ≡ fold-rest (of_initializer w) w + w move.tree
+  fold_trees_behind w = let a = fold-behind (of_initializer w) w in let b = there-tree w move.place move.tree in omega (arith, a, b)
 
   pub fold-declared : (a : ℕ) → declarations a Q ≤ declarations a P
   fold-declared a = let x = fold-before (declaring a) (λ t. 0) in let y = fold-behind (declaring a) (λ t. 0) in let z = there-declared a move.place φ.into move.tree in omega (arith, x, y, z)
@@ -56,8 +56,8 @@ module _ {ctx : Context} {P Q : List Statement} (move : StopAt ctx P Q) where
   pub stop-trees_before : (w : Tree → ℕ) → trees w P ≡ stop-rest (of_initializer w) w + w move.old
   stop-trees_before w = let a = stop-before (of_initializer w) w in let b = there-tree w move.place move.old in omega (arith, a, b)
 
-  pub stop-trees_behind : (w : Tree → ℕ) → trees w Q ≡ stop-rest (of_initializer w) w + w move.new
-  stop-trees_behind w = let a = stop-behind (of_initializer w) w in let b = there-tree w move.place move.new in omega (arith, a, b)
+  pub stop_trees_behind : (w : Tree → ℕ) → trees w Q ≡ stop-rest (of_initializer w) w + w move.new
+  stop_trees_behind w = let a = stop-behind (of_initializer w) w in let b = there-tree w move.place move.new in omega (arith, a, b)
 
   pub stop-declared : (a : ℕ) → declarations a Q ≤ declarations a P
   stop-declared a = let x = stop-before (declaring a) (λ t. 0) in let y = stop-behind (declaring a) (λ t. 0) in let z = there-declared a move.place move.old move.new in omega (arith, x, y, z)

@@ -66,15 +66,15 @@ module _ (wd : Declarator → ℕ) (we : Tree → ℕ) where
   pub site_total : (before : List Statement) (k : DeclarationKind) (ds : List Declarator) (p : Place) (t : Tree) (after : List Statement) → total (before ++ (declaration k (ds ++ declarators_at p t) ∷ statements_at p t after)) ≡ total before + total_of ds + around p after + there p t
   site_total before k ds p t after = let h = declared-total before k ds (declarators_at p t) (statements_at p t after) in let g = place-total p t after in omega (arith, h, g)
 
-  with-one : (d : Declarator) (p : Place) (t : Tree) → total_of (d ∷ declarators_at p t) ≡ wd d + total_of (declarators_at p t)
+  with_one : (d : Declarator) (p : Place) (t : Tree) → total_of (d ∷ declarators_at p t) ≡ wd d + total_of (declarators_at p t)
   unfolding total_of
-  with-one d p t = refl
+  with_one d p t = refl
 
   pub fold-total : (before : List Statement) (k : DeclarationKind) (ds : List Declarator) (d : Declarator) (p : Place) (t : Tree) (after : List Statement) → total (before ++ (declaration k (ds ++ (d ∷ declarators_at p t)) ∷ statements_at p t after)) ≡ total before + total_of ds + around p after + there p t + wd d
   fold-total before k ds d p t after =
       let h = declared-total before k ds (d ∷ declarators_at p t) (statements_at p t after) in
       let g = place-total p t after in
-      let e = with-one d p t in
+      let e = with_one d p t in
       omega (arith, h, g, e)
 
   pub drop-total : (before : List Statement) (k : DeclarationKind) (after : List Statement) → total (before ++ (declaration k [] ∷ after)) ≡ total (before ++ after)

@@ -95,9 +95,9 @@ module _ {Value : Type 0} (v : ℕ) where
   unfolding is_target_of
   nothing-off = off refl
 
-  eval-off : Off {Value = Value} v bare_eval
+  eval_off : Off {Value = Value} v bare_eval
   unfolding is_target_of
-  eval-off = off refl
+  eval_off = off refl
 
   opaque_off : (l : ℕ) → Off {Value = Value} v (opaque_target l)
   unfolding is_target_of
@@ -132,12 +132,12 @@ module _ {Value : Type 0} (v : ℕ) where
   first_or_off w [] h = nothing-off
   first_or_off w (x ∷ hs) h = h
 
-  pub beside-off : (names : List NameFacts) (w : Value) (f : Form) (n : Node) (hs : List (Given Value)) → (is 29 n ≡ true → eqb n.label v ≡ false) → First (Off v) hs → Off v (beside names w f n hs)
+  pub beside-off : {Rest : Type 0} (names : List NameFacts) (m : Meaning Value Rest) (f : Form) (n : Node) (hs : List (Given Value)) → (is 29 n ≡ true → eqb n.label v ≡ false) → First (Off v) hs → Off v (beside names m.undefined f n hs)
   unfolding beside
-  beside-off names w f n hs h g =
-      cond_off (is_name f) (λ e. cond_off (is_eval (flags_of names n.label)) (λ e. eval-off) nothing-off)
+  beside-off names m f n hs h g =
+      cond_off (is_name f) (λ e. cond_off (is_eval (flags_of names n.label)) (λ e. eval_off) nothing-off)
       (cond_off (is 29 n) (λ e. target-off n.label (h e)) (cond_off (is 30 n) (λ e. opaque_off _) (cond_off (is 10 n) (λ e. member-off _ _) (cond_off (is 11 n) (λ e. member-off _ _)
-      (cond_off (is 12 n) (λ e. member-off _ _) (cond_off (is_chain f) (λ e. first_or_off w hs g) nothing-off))))))
+      (cond_off (is 12 n) (λ e. member-off _ _) (cond_off (is_chain f) (λ e. first_or_off m.undefined hs g) nothing-off))))))
 
 pub kids-targets : (v : ℕ) (n : Node) (ts : Trees) → targets v (node n ts) ≡ 0 → all_targets v ts ≡ 0
 unfolding uses_in
@@ -154,7 +154,7 @@ tail-targets v t ts e = omega arith
 module _ {Value Rest : Type 0} (names : List NameFacts) (m : Meaning Value Rest) (v : ℕ) where
   pub aside-off : (n : Node) (ts : Trees) (hs : List (Given Value)) → targets v (node n ts) ≡ 0 → First (Off v) hs → Off v (beside names m.undefined (form (cleared n)) (cleared n) hs)
   unfolding cleared
-  aside-off n ts hs h g = beside-off v names m.undefined (form (cleared n)) (cleared n) hs (λ e. off-target v n ts h e) g
+  aside-off n ts hs h g = beside-off v names m (form (cleared n)) (cleared n) hs (λ e. off-target v n ts h e) g
 
   abbrev pub Gives-off : Out Value Rest (Given Value) → Type 0
   Gives-off o = Given-ends names m (Off v) (λ s. Unit {0}) (Unit {0}) o

@@ -10,22 +10,22 @@ use Rattle.records.specs.File.{Statement, File}
 use Rattle.records.proofs.Tests.{clash}
 use Rattle.walk_rules.specs.Context.{context_of}
 use Rattle.statements_rules.specs.Trace.{Fold}
-use Rattle.statements_rules.specs.Fold.{base_fold_file}
+use Rattle.statements_rules.specs.Fold.{folded_file, with_statements, fold_file}
 use Rattle.theory_runs.specs.Store.{Store, set}
 use Rattle.theory_runs.specs.Meaning.{Meaning}
 use Rattle.theory_runs.specs.State.{Log, State, Out, gave, cut, stop}
-use Rattle.theory_runs.specs.Script.{run_statements, begin, stopped, ended, whole, ran}
+use Rattle.theory_runs.specs.Script.{run_statements, begin, stopped, ended, whole, ran, run_file}
 use Rattle.theory_runs.specs.Shapes.{declared}
 use Rattle.theory_runs.specs.Facts.{Each, FoldKeeps}
-use Rattle.theory_runs.specs.Same.{folded, both_stopped, both-ended, SameBaseRun}
+use Rattle.theory_runs.specs.Demand.{folded, both_stopped, both-ended, SameRun}
 use Rattle.theory_preservation.proofs.OfAll.{FactsOfAll}
 use Rattle.theory_preservation.proofs.Frame.{Shift, moved, shifted}
 use Rattle.theory_preservation.proofs.Passing.{Put}
 use Rattle.theory_preservation.proofs.Moves.{Moves, done, fold, stop as halt, drop, file-moves}
 use Rattle.theory_preservation.proofs.Totals.{declarations, declaring}
 use Rattle.theory_preservation.proofs.Fine.{Accepted, Fine}
-use Rattle.theory_preservation.proofs.FineKept.{stop-fine, drop-fine}
-use Rattle.theory_preservation.proofs.FoldKept.{fold-kept, fold-fine, declared-there, gone}
+use Rattle.theory_preservation.proofs.FineKept.{stop_fine, drop_fine}
+use Rattle.theory_preservation.proofs.FoldKept.{fold-kept, fold_fine, declared-there, gone}
 use Rattle.theory_preservation.proofs.Unseen.{stop-same, drop-same}
 use Rattle.theory_preservation.proofs.Declared.{declared-none}
 use Rattle.theory_preservation.proofs.Sums.{fold-declared, stop-declared, drop-sum}
@@ -37,7 +37,7 @@ erase_at false false u w z h = refl
 
 -- the values of some names forgotten
 module _ {Value Rest : Type 0} (V' : ℕ → Bool) (u : Value) where
-  unfoldable pub Erase : Shift Value Rest
+  unfoldable Erase : Shift Value Rest
   Erase = record { on = λ s. record { names = λ n. cond (V' n) u (s.names n); rest = s.rest }; to = λ l. l }
 
   erase_put : (v : ℕ) (w : Value) (s : State Value Rest) → V' v ≡ true → moved Erase (moved (Put v w) s) ≡ moved Erase s
@@ -62,70 +62,63 @@ module _ {Value Rest : Type 0} (V' : ℕ → Bool) (u : Value) where
 
 -- no move declares a name
 module _ (f : File) (a : ℕ) where
-  pub moves-declared : {P Q : List Statement} {φs : List Fold} → Moves (context_of f) P Q φs → declarations a Q ≤ declarations a P
+  moves-declared : {P Q : List Statement} {φs : List Fold} → Moves (context_of f) P Q φs → declarations a Q ≤ declarations a P
   moves-declared (done e g) = rw e (omega arith)
   moves-declared (fold M φ ψs m e k) = let x = fold-declared m a in let y = moves-declared k in omega (arith, x, y)
   moves-declared (halt M m k) = let x = stop-declared m a in let y = moves-declared k in omega (arith, x, y)
   moves-declared (drop M m k) = let x = drop-sum m (declaring a) (λ t. 0) in let y = moves-declared k in omega (arith, x, y)
 
--- every program on the way is fine, the last one too
-pub moves-fine : (f : File) → Accepted f → {P Q : List Statement} {φs : List Fold} → Moves (context_of f) P Q φs → Fine f P → Fine f Q
-moves-fine f a (done e g) fine = rw e fine
-moves-fine f a {P = P} (fold M φ ψs m e k) fine = moves-fine f a k (fold-fine f P M φ m a fine)
-moves-fine f a {P = P} (halt M m k) fine = moves-fine f a k (stop-fine f P M m fine)
-moves-fine f a {P = P} (drop M m k) fine = moves-fine f a k (drop-fine f P M m fine)
-
 -- the folded names are declared in the file, and not in what is left
-abbrev pub Gone : File → List Statement → Fold → Type 0
+abbrev Gone : File → List Statement → Fold → Type 0
 Gone f Q φ = (declared f φ.name ≡ true) × (declarations φ.name Q ≡ 0)
 
 module _ (f : File) (accepted : Accepted f) where
-  pub all-gone : {P Q : List Statement} {φs : List Fold} → Moves (context_of f) P Q φs → Fine f P → Each (Gone f Q) φs
+  all-gone : {P Q : List Statement} {φs : List Fold} → Moves (context_of f) P Q φs → Fine f P → Each (Gone f Q) φs
   all-gone (done e g) fine = rw g tt
-  all-gone {P = P} (fold M φ ψs m e k) fine = rw e ((declared-there f P M φ m accepted fine, (let x = moves-declared f φ.name k in let y = gone f P M φ m accepted fine in omega (arith, x, y))), all-gone k (fold-fine f P M φ m accepted fine))
-  all-gone {P = P} (halt M m k) fine = all-gone k (stop-fine f P M m fine)
-  all-gone {P = P} (drop M m k) fine = all-gone k (drop-fine f P M m fine)
+  all-gone {P = P} (fold M φ ψs m e k) fine = rw e ((declared-there f P M φ m accepted fine, (let x = moves-declared f φ.name k in let y = gone f P M φ m accepted fine in omega (arith, x, y))), all-gone k (fold_fine f P M φ m accepted fine))
+  all-gone {P = P} (halt M m k) fine = all-gone k (stop_fine f P M m fine)
+  all-gone {P = P} (drop M m k) fine = all-gone k (drop_fine f P M m fine)
 
   module _ {Value Rest : Type 0} {trace : List Fold} (m : Meaning Value Rest) (start : Store Value Rest) (facts : FactsOfAll f trace m start) (V' : ℕ → Bool) where
     abbrev runs : List Statement → Out Value Rest (Unit {0})
     runs P = run_statements f.names m P (begin start)
 
-    pub all-kept : {P Q : List Statement} {φs : List Fold} → Moves (context_of f) P Q φs → Fine f P → Each (FoldKeeps f.names m start) φs → Each (λ φ. V' φ.name ≡ true) φs → shifted (Erase V' m.undefined) (runs P) ≡ shifted (Erase V' m.undefined) (runs Q)
+    all-kept : {P Q : List Statement} {φs : List Fold} → Moves (context_of f) P Q φs → Fine f P → Each (FoldKeeps f.names m start) φs → Each (λ φ. V' φ.name ≡ true) φs → shifted (Erase V' m.undefined) (runs P) ≡ shifted (Erase V' m.undefined) (runs Q)
     all-kept (done e g) fine h n = rw e
     all-kept {P = P} {Q = Q} (fold M φ ψs v e k) fine h n =
         let (h₁, h₂) = subst (λ x. Each (FoldKeeps f.names m start) x) e h in
         let (n₁, n₂) = subst (λ x. Each (λ φ. V' φ.name ≡ true) x) e n in
         erase_same V' m.undefined φ.name m.undefined (runs P) (runs M) n₁ (fold-kept f P M φ v accepted fine m start facts h₁)
-        ∙ all-kept k (fold-fine f P M φ v accepted fine) h₂ n₂
-    all-kept {P = P} (halt M v k) fine h n = ap (shifted (Erase V' m.undefined)) (stop-same f.names m (context_of f) P M (begin start) v) ∙ all-kept k (stop-fine f P M v fine) h n
-    all-kept {P = P} (drop M v k) fine h n = ap (shifted (Erase V' m.undefined)) (drop-same f.names m (context_of f) P M (begin start) v) ∙ all-kept k (drop-fine f P M v fine) h n
+        ∙ all-kept k (fold_fine f P M φ v accepted fine) h₂ n₂
+    all-kept {P = P} (halt M v k) fine h n = ap (shifted (Erase V' m.undefined)) (stop-same f.names m (context_of f) P M (begin start) v) ∙ all-kept k (stop_fine f P M v fine) h n
+    all-kept {P = P} (drop M v k) fine h n = ap (shifted (Erase V' m.undefined)) (drop-same f.names m (context_of f) P M (begin start) v) ∙ all-kept k (drop_fine f P M v fine) h n
 
 -- From outcomes that are the same but for some names to runs that are the same.
 module _ {Value Rest : Type 0} (f g : File) (u : Value) where
-  abbrev pub erased : Shift Value Rest
+  abbrev erased : Shift Value Rest
   erased = Erase (folded f g) u
 
-  pub names_same : (s s' : State Value Rest) → moved erased s ≡ moved erased s' → (a : ℕ) → folded f g a ≡ false → s.store.names a ≡ s'.store.names a
+  names_same : (s s' : State Value Rest) → moved erased s ≡ moved erased s' → (a : ℕ) → folded f g a ≡ false → s.store.names a ≡ s'.store.names a
   unfolding moved Erase
   names_same s s' e a h = rw h at (ap (λ (s : State Value Rest). s.store.names a) e)
 
-  pub rest-same : (s s' : State Value Rest) → moved erased s ≡ moved erased s' → s.store.rest ≡ s'.store.rest
+  rest-same : (s s' : State Value Rest) → moved erased s ≡ moved erased s' → s.store.rest ≡ s'.store.rest
   unfolding moved Erase
   rest-same s s' e = ap (λ (s : State Value Rest). s.store.rest) e
 
-  pub log-same : (s s' : State Value Rest) → moved erased s ≡ moved erased s' → s.log ≡ s'.log
+  log-same : (s s' : State Value Rest) → moved erased s ≡ moved erased s' → s.log ≡ s'.log
   unfolding moved Erase
   log-same s s' e = ap (λ (s : State Value Rest). s.log) e
 
-  ended_same : (s s' : State Value Rest) → moved erased s ≡ moved erased s' → SameBaseRun f g (whole s.log (ended s.store)) (whole s'.log (ended s'.store))
+  ended_same : (s s' : State Value Rest) → moved erased s ≡ moved erased s' → SameRun f g (whole s.log (ended s.store)) (whole s'.log (ended s'.store))
   unfolding whole
   ended_same s s' e = record { steps = ap (λ (l : Log Value). reverse l.steps) (log-same s s' e); values = ap (λ (l : Log Value). reverse l.values) (log-same s s' e); end = both-ended (names_same s s' e) (rest-same s s' e) }
 
-  stopped-same : (l l' : Log Value) → l ≡ l' → SameBaseRun f g (whole {Rest = Rest} l stopped) (whole l' stopped)
+  stopped-same : (l l' : Log Value) → l ≡ l' → SameRun f g (whole {Rest = Rest} l stopped) (whole l' stopped)
   unfolding whole
   stopped-same l l' e = record { steps = ap (λ (l : Log Value). reverse l.steps) e; values = ap (λ (l : Log Value). reverse l.values) e; end = both_stopped }
 
-  ran-same : (o o' : Out Value Rest (Unit {0})) → shifted erased o ≡ shifted erased o' → SameBaseRun f g (ran o) (ran o')
+  ran-same : (o o' : Out Value Rest (Unit {0})) → shifted erased o ≡ shifted erased o' → SameRun f g (ran o) (ran o')
   unfolding ran shifted
   ran-same (gave a s) (gave b s') e = let q : moved erased s ≡ moved erased s' = cc in ended_same s s' q
   ran-same (gave a s) (cut s') e = absurd (let z : ◌≡◌ {A = ℕ} 0 1 = cc in omega arith)
@@ -141,14 +134,18 @@ folded-by : (f g : File) (a : ℕ) → declared f a ≡ true → declared g a �
 unfolding folded
 folded-by f g a e h = rw (e, h)
 
-pub gone-folded : (f g : File) (φs : List Fold) → Each (Gone f g.statements) φs → Each (λ φ. folded f g φ.name ≡ true) φs
+gone-folded : (f g : File) (φs : List Fold) → Each (Gone f g.statements) φs → Each (λ φ. folded f g φ.name ≡ true) φs
 gone-folded f g [] h = tt
 gone-folded f g (φ ∷ φs) ((a, b), h) = (folded-by f g φ.name a (declared-none φ.name g.statements b), gone-folded f g φs h)
 
--- The runs of a file and of its result by one meaning, whose every step keeps the facts, are the same.
-pub same_of_all : (f : File) → Accepted f → Fine f f.statements → {Value Rest : Type 0} (m : Meaning Value Rest) (start : Store Value Rest) → FactsOfAll f (base_fold_file f).trace m start
-    → SameBaseRun f (base_fold_file f).file (ran (run_statements f.names m f.statements (begin start))) (ran (run_statements f.names m (base_fold_file f).file.statements (begin start)))
+-- The runs of a file and of its result are the same for a meaning whose every step keeps the facts.
+pub same_of_all : (f : File) → Accepted f → Fine f f.statements → {Value Rest : Type 0} (m : Meaning Value Rest) (start : Store Value Rest) → FactsOfAll f (fold_file f).trace m start → SameRun f (fold_file f).file (run_file m f start) (run_file m (fold_file f).file start)
 same_of_all f accepted fine m start facts =
-    let g = (base_fold_file f).file in
-    ran-same f g m.undefined (run_statements f.names m f.statements (begin start)) (run_statements f.names m g.statements (begin start))
-    (all-kept f accepted m start facts (folded f g) (file-moves f) fine facts.targets-kept (gone-folded f g (base_fold_file f).trace (all-gone f accepted (file-moves f) fine)))
+    same-file (ran-same f g m.undefined (run_statements f.names m f.statements (begin start)) (run_statements f.names m g.statements (begin start))
+    (all-kept f accepted m start facts (folded f g) (file-moves f) fine facts.targets-kept (gone-folded f g (fold_file f).trace (all-gone f accepted (file-moves f) fine))))
+  where
+    g : File
+    g = (fold_file f).file
+
+    same-file : SameRun f g (ran (run_statements f.names m f.statements (begin start))) (ran (run_statements f.names m g.statements (begin start))) → SameRun f g (run_file m f start) (run_file m g start)
+    same-file h = unfold run_file fold_file folded_file with_statements in h

@@ -20,13 +20,13 @@ use Rattle.theory_runs.specs.Run.{takes, then, is_read, kept, listed, acted, cau
 use Rattle.theory_runs.specs.Script.{sets, binds, declares_bare, declares_with, run_declarator, run_declarators, gives, run_statement, run_statements, stopped, ended, Ran, whole, ran, begin}
 
 -- Trees: a node by its kind, flags, label and children.
-abbrev pub nd : ℕ → ℕ → ℕ → Trees → Tree
+abbrev nd : ℕ → ℕ → ℕ → Trees → Tree
 nd kind flags label kids = node (record { kind = kind; flags = flags; label = label; position = 0 }) kids
 
 abbrev one : Tree → Trees
 one t = more t none
 
-abbrev pub two : Tree → Tree → Trees
+abbrev two : Tree → Tree → Trees
 two t u = more t (more u none)
 
 abbrev three : Tree → Tree → Tree → Trees
@@ -35,11 +35,11 @@ three t u w = more t (more u (more w none))
 abbrev name : ℕ → Tree
 name a = nd 4 0 a none
 
-abbrev pub literal : ℕ → Tree
+abbrev literal : ℕ → Tree
 literal l = nd 1 0 l none
 
 -- a marked call of a name without arguments
-abbrev pub call : ℕ → Tree
+abbrev call : ℕ → Tree
 call a = nd 14 1 0 (one (name a))
 
 -- a static member, unmarked
@@ -62,23 +62,23 @@ facts =
 -- A clock: every marked step gives the time plus 99, and the time goes on by one; every other step that reads gives the
 -- time. So a value says when it was made. A literal's value is its label, a property's its child's. A choice goes by
 -- whether the value in hand is 0. An assignment to a name sets it. A step with label 99 stops.
-unfoldable pub is_target : Beside ℕ → ℕ → Store ℕ ℕ → Store ℕ ℕ
+unfoldable is_target : Beside ℕ → ℕ → Store ℕ ℕ → Store ℕ ℕ
 is_target nothing w s = s
 is_target bare_eval w s = s
 is_target (aTarget a) w s = set a w s
 is_target (opaque_target l) w s = s
 is_target (member o k) w s = s
 
-unfoldable pub assigns : List (Given ℕ) → Store ℕ ℕ → Store ℕ ℕ
+unfoldable assigns : List (Given ℕ) → Store ℕ ℕ → Store ℕ ℕ
 assigns [] s = s
 assigns (h ∷ hs) s = is_target h.beside (last_or h.value hs) s
 
-unfoldable pub label_of : Origin → ℕ
+unfoldable label_of : Origin → ℕ
 label_of (of_node kind label flags role) = label
 label_of (of_declarator k a) = 0
 label_of of_other = 0
 
-unfoldable pub is_assign : Origin → Bool
+unfoldable is_assign : Origin → Bool
 is_assign (of_node kind label flags role) = eqb kind 20
 is_assign (of_declarator k a) = false
 is_assign of_other = false
@@ -86,7 +86,7 @@ is_assign of_other = false
 abbrev after : Step ℕ → Store ℕ ℕ → Store ℕ ℕ
 after x s = cond (is_assign x.origin) (assigns x.hand s) s
 
-unfoldable pub clock : Meaning ℕ ℕ
+unfoldable clock : Meaning ℕ ℕ
 clock = record {
   undefined = 0;
   constant = λ x. last_or (label_of x.origin) x.hand;
@@ -96,12 +96,12 @@ clock = record {
 }
 
 -- The run of some statements; name a has the value 10 + a, but name 0 has 0; the time is 1.
-unfoldable pub clocked : List Statement → Ran ℕ ℕ
+unfoldable clocked : List Statement → Ran ℕ ℕ
 unfolding cleared is_marked is_member is_delete form order childless is_name is_chain is_plain is_assignment choice_of first_role origin_of bind takes then is_read kept listed acted caught gathered chosen in_turn stepped queued held after_first own beside finished run_node run sets binds declares_bare declares_with run_declarator run_declarators gives run_statement run_statements whole ran begin first_or last_or set flags_of is_target assigns label_of is_assign clock
 clocked ss = ran (run_statements facts clock ss (begin (record { names = λ a. cond (eqb a 0) 0 (10 + a); rest = 1 })))
 
 -- A marked step of kind, flags and label with this in hand.
-abbrev pub did : ℕ → ℕ → ℕ → List (Given ℕ) → Step ℕ
+abbrev did : ℕ → ℕ → ℕ → List (Given ℕ) → Step ℕ
 did kind flags label hs = record { origin = of_node kind label flags value; hand = hs }
 
 -- a call of a name, with arguments

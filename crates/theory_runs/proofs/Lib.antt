@@ -4,5 +4,3 @@ pub mod Repeats
 pub mod Witness
 pub mod HiddenSteps
 pub mod RepeatWitness
-pub mod Merges
-pub mod MergeWitness

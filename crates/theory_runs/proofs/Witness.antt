@@ -2,23 +2,19 @@
 -- which all facts are true. The fold brings a call into `o.x = v`, while another call of the same kind, label and flags does
 -- change what `o.x` gives. Direct evals, patterns, usings and kind 6 statements are as any other meaning has them; the file has
 -- none (HiddenSteps has files with some). Assumes nothing.
-use Prim.Native.Nat.{ℕ, zero, suc, ◌+◌}
-use mathlib.Core.Bool.{Bool, true, false, cond, ◌&&◌, ◌||◌, not, and-false, or-true, false≢true}
+use Prim.Native.Nat.{ℕ, ◌+◌}
+use mathlib.Core.Bool.{Bool, true, false, cond, ◌&&◌, ◌||◌, and-false, false≢true}
 use mathlib.Core.List.{List, [], ◌∷◌}
 use mathlib.Core.Path.{◌≡◌, refl, sym, ap, subst, ◌∙◌}
-use native.Mathlib.Omega.{arith}
-use lib.Dec.{eqb, ltb}
-use borrow.Author.Tests.{ltb-true, eqb-true, eqb-false, eq-eqb, ne_eqb}
-use Rattle.records.specs.Bytes.{Bytes}
+use lib.Dec.{eqb}
+use borrow.Author.Tests.{eqb-false, ne_eqb}
 use Rattle.records.specs.Limits.{no_number}
-use Rattle.records.specs.Flags.{compound}
 use Rattle.records.specs.Script.{flags_of}
 use Rattle.records.specs.Tree.{Tree, Trees, node, none, more, count}
 use Rattle.records.specs.Count.{target_name as target_of, first_target, name_read}
 use Rattle.records.specs.Refusal.{refusal}
-use Rattle.records.specs.File.{Const, given, Statement, declaration, expression, File, declarators_in, all_declarators, initializer_tree, initializer_trees, statement_trees, all_trees, print, one}
+use Rattle.records.specs.File.{Const, given, Statement, declaration, expression, File, declarators_in, all_declarators, initializer_tree, initializer_trees, statement_trees, all_trees, print}
 use Rattle.records.specs.declared.layout.NameFacts.{NameFacts}
-use Rattle.records.proofs.Tests.{and_left, and_right}
 use Rattle.theory_runs.specs.Store.{Store, set}
 use Rattle.theory_runs.specs.Hand.{static, Beside, nothing, bare_eval, target_name, opaque_target, member, Given, only, first_or, last_or}
 use Rattle.theory_runs.specs.Step.{Role, value, target, Origin, of_node, of_declarator, of_other, Step}
@@ -26,19 +22,16 @@ use Rattle.theory_runs.specs.Meaning.{Act, done, stops, Meaning}
 use Rattle.theory_runs.specs.Form.{cleared, is_marked, is_member, is_delete, form, order, childless, is_name, is_chain, is_plain, is_assignment, choice_of, first_role, origin_of}
 use Rattle.theory_runs.specs.State.{State, Out, gave, cut, stop, bind}
 use Rattle.theory_runs.specs.Run.{takes, then, is_read, kept, listed, acted, caught, gathered, chosen, in_turn, stepped, queued, held, after_first, own, beside, finished, run_node, run}
-use Rattle.theory_runs.specs.Writes.{declares_var_or_let, is_var_or_let_of, is_plain_assignment, is_plain_write_to, assigns, assigns_with, writing, meaning_in}
 use Rattle.theory_runs.specs.Script.{sets, binds, declares_bare, declares_with, run_declarator, run_declarators, gives, run_statement, run_statements, Ran, whole, ran, begin, run_file}
-use Rattle.theory_runs.specs.Shapes.{some_in, declared_in, shape_p, first_declared, shape_q, eval_whole, some_eval, shape_r, leaves_eval, shape_s}
+use Rattle.theory_runs.specs.Shapes.{some_in, declared_in, shape_p, first_declared, shape_q, eval_whole, some_eval, shape_r, shape_s}
 use Rattle.theory_runs.specs.InHand.{sort_of, same_beside, is_nothing, beside_of, may_keep, are_values, may_have}
 use Rattle.theory_runs.specs.Makes.{Asked, choice, step, is_marked_step, is_made, some, makes_own, asks, some_turn, role_number, same_origin, makes_here, makes_in, makes_marked, makes_declarator, makes_statement, makes}
 use Rattle.walk_rules.specs.Context.{context_of, facts_of}
 use Rattle.walk_rules.specs.Unsettled.{scope_of, climb, read_crosses_function_boundary}
-use Rattle.theory_runs.specs.Same.{folded, is_bare, declared_with, merged, at-end, the_same, times, givers, is_among, values_kept, ends-alike, SameRun}
-use Rattle.theory_runs.specs.Demand.{Demand3}
+use Rattle.theory_runs.specs.Demand.{folded, both-ended, SameRun}
 use Rattle.theory_runs.specs.Facts.{is_target_of, aims, through_by, through, is_of_node, AgreeBut, ActsAlike, both-done, both-stop, Each, FoldKeeps, this_step, Facts}
 use Rattle.statements_rules.specs.Declarators.{is_using}
 use Rattle.statements_rules.specs.Trace.{Fold}
-use Rattle.statements_rules.specs.Merge.{is_var_or_let}
 use Rattle.statements_rules.specs.Fold.{fold_file}
 use Rattle.statements_rules.proofs.Computed.{computed}
 
@@ -80,11 +73,8 @@ script = file_of facts statements
 abbrev result : File
 result = file_of facts (expression (assigned (call 1)) ∷ expression (call 2) ∷ [])
 
-abbrev fold : Fold
-fold = record { name = 0; initializer = call 1; into = assigned (name 0); before = declaration Const [] ∷ [] }
-
 abbrev pub trace : List Fold
-trace = fold ∷ []
+trace = record { name = 0; initializer = call 1; into = assigned (name 0); before = declaration Const [] ∷ [] } ∷ []
 
 -- The rest of the store: what `o.x` holds, and a count.
 abbrev pub Bench : Type 0
@@ -94,9 +84,9 @@ Bench = ℕ × ℕ
 unfoldable pub callee : List (Given ℕ) → ℕ
 callee hs = (first_or 0 hs).value
 
--- A member reads what `o.x` holds, `this` and a target name read nothing, every other step reads the count.
+-- A member reads what `o.x` holds, `this` is fixed, every other step reads the count.
 unfoldable pub looks : Origin → Bench → ℕ
-looks (of_node kind label flags role) r = cond (eqb kind 10) r.0 (cond (eqb kind 5 || eqb kind 29) 3 r.1)
+looks (of_node kind label flags role) r = cond (eqb kind 10) r.0 (cond (eqb kind 5) 3 r.1)
 looks (of_declarator k a) r = r.1
 looks of_other r = r.1
 
@@ -169,13 +159,8 @@ unfolding cleared is_marked is_member is_delete form order childless is_name is_
 runs free t role s = run facts (bench free) t role s
 
 unfoldable pub ran_of : Meaning ℕ Bench → File → Ran ℕ Bench
-unfolding runs sets binds declares_bare declares_with run_declarator run_declarators gives run_statement run_statements whole ran begin declared_in is_var_or_let declares_var_or_let is_var_or_let_of is_plain_assignment assigns assigns_with writing meaning_in run_file
+unfolding runs sets binds declares_bare declares_with run_declarator run_declarators gives run_statement run_statements whole ran begin run_file
 ran_of free f = run_file (bench free) f start
-
--- where this is unfolded, the tests for shapes compute
-unfoldable pub shape-tests : Unit {0}
-unfolding some_in declared_in shape_p first_declared shape_q eval_whole some_eval shape_r shape_s context_of facts_of scope_of climb read_crosses_function_boundary name_read target_of first_target flags_of count declarators_in all_declarators initializer_tree initializer_trees statement_trees all_trees
-shape-tests = tt
 
 -- a choice between two values, of which the test says that it is the second
 second : (b : Bool) (w u : ℕ) → b ≡ false → cond b w u ≡ u
@@ -186,30 +171,19 @@ either : (b : Bool) (w u u' : ℕ) → u ≡ u' → cond b w u ≡ cond b w u'
 either true w u u' e = refl
 either false w u u' e = e
 
--- an equality test, the other way around
-pub turned : (a b : ℕ) → eqb a b ≡ eqb b a
-turned a b = by (eqb b a) refl
-  where
-    by : (t : Bool) → eqb b a ≡ t → eqb a b ≡ t
-    by true e = eq-eqb a b (sym (eqb-true b a e))
-    by false e = ne_eqb a b (λ z. eqb-false b a e (sym z))
-
 -- what a file makes, computed
 unfoldable pub made : Asked → File → Step ℕ → Bool
 unfolding cleared is_marked is_member is_delete form order childless is_name is_chain is_plain is_assignment choice_of first_role origin_of kept beside first_or last_or takes then is_read flags_of sort_of same_beside is_nothing beside_of may_keep are_values may_have is_marked_step is_made some makes_own asks some_turn role_number same_origin is_using makes_here makes_in makes_marked makes_declarator makes_statement makes
 made d f x = makes d f x
 
--- Before and after the folded call `o.x` holds 40, in any file that has this fold.
-pub kept_here : (free : Meaning ℕ Bench) (f : File) → Each (FoldKeeps facts (meaning_in f (bench free)) start) trace
-unfolding ran_of state_of value_of
-kept_here free f = (holds_40, tt)
-  where
-    holds_40 : FoldKeeps facts (meaning_in f (bench free)) start fold
-    holds_40 s s' x before through-it =
-        let here : begin start ≡ s = ap state_of before in
-        let there : ◌≡◌ {A = ℕ} 40 s'.store.rest.0 = ap (λ o. (state_of o).store.rest.0) (subst (λ u. run facts (meaning_in f (bench free)) (call 1) value u ≡ gave x s') (sym here) through-it) in
-        let same : s.store.rest.0 ≡ s'.store.rest.0 = ap (λ u. u.store.rest.0) (sym here) ∙ there in
-        ((λ p q r y y' u u' e e'. ap value_of (sym e) ∙ same ∙ ap value_of e'), (((λ p q r. absurd (false≢true p)), ((tt, tt), tt)), ((tt, tt), tt)))
+-- Before and after the folded call `o.x` holds 40.
+pub kept_here : (free : Meaning ℕ Bench) → FoldKeeps facts (bench free) start (record { name = 0; initializer = call 1; into = assigned (name 0); before = declaration Const [] ∷ [] })
+unfolding runs state_of value_of run_declarators run_statement run_statements begin
+kept_here free s s' x before through-it =
+    let here : begin start ≡ s = ap state_of before in
+    let there : ◌≡◌ {A = ℕ} 40 s'.store.rest.0 = ap (λ o. (state_of o).store.rest.0) (subst (λ u. run facts (bench free) (call 1) value u ≡ gave x s') (sym here) through-it) in
+    let same : s.store.rest.0 ≡ s'.store.rest.0 = ap (λ u. u.store.rest.0) (sym here) ∙ there in
+    ((λ p q r y y' u u' e e'. ap value_of (sym e) ∙ same ∙ ap value_of e'), (((λ p q r. absurd (false≢true p)), ((tt, tt), tt)), ((tt, tt), tt)))
 
 -- Stores that differ at one name alone.
 alike-by : (b : Bool) (a : ℕ) (x : Step ℕ) (s s' : Store ℕ Bench) → AgreeBut a s s' → ActsAlike a (acts b x s) (acts b x (record { names = s'.names; rest = s.rest }))
@@ -226,71 +200,15 @@ unfolding acts store_of writes
 unwritten-by true a x s e = refl
 unwritten-by false a x s e = second (through a x) _ _ e
 
--- In a file a marked step is as the meaning has it, or it is a plain write that sets its name.
-data InFile (f : File) (m : Meaning ℕ Bench) (x : Step ℕ) : Type 0 where
-  as_meant : ((s : Store ℕ Bench) → (meaning_in f m).acts x s ≡ m.acts x s) → InFile f m x
-  sets-name : (b w : ℕ) → is_plain_write_to b x ≡ true → ((s : Store ℕ Bench) → (meaning_in f m).acts x s ≡ done w (set b w s)) → InFile f m x
-
-module _ (f : File) (m : Meaning ℕ Bench) (o : Origin) where
-  in_file-by : (plain : Bool) → is_plain_assignment o ≡ plain → (hs : List (Given ℕ)) → InFile f m (record { origin = o; hand = hs })
-  unfolding meaning_in writing assigns_with assigns is_plain_write_to aims is_target_of
-  in_file-by false e hs = as_meant (λ s. rw e)
-  in_file-by true e [] = as_meant (λ s. rw e)
-  in_file-by true e (h ∷ hs) = by h.value h.beside
-    where
-      by_name : (w b : ℕ) (declares : Bool) → is_var_or_let_of f.statements b ≡ declares → InFile f m (record { origin = o; hand = record { value = w; beside = target_name b } ∷ hs })
-      by_name w b true g = sets-name b (last_or w hs) (rw (e, eq-eqb b b refl)) (λ s. rw (e, g))
-      by_name w b false g = as_meant (λ s. rw (e, g))
-
-      by : (w : ℕ) (b : Beside ℕ) → InFile f m (record { origin = o; hand = record { value = w; beside = b } ∷ hs })
-      by w nothing = as_meant (λ s. rw e)
-      by w bare_eval = as_meant (λ s. rw e)
-      by w (target_name b) = by_name w b (is_var_or_let_of f.statements b) refl
-      by w (opaque_target l) = as_meant (λ s. rw e)
-      by w (member v k) = as_meant (λ s. rw e)
-
-in_file : (f : File) (m : Meaning ℕ Bench) (x : Step ℕ) → InFile f m x
-in_file f m x = in_file-by f m x.origin (is_plain_assignment x.origin) refl x.hand
-
-set-alike : (a b w : ℕ) (s s' : Store ℕ Bench) → AgreeBut a s s' → AgreeBut a (set b w s) (set b w s')
-unfolding set
-set-alike a b w s s' h = record { names = λ n e. either (eqb n b) _ _ _ (h.names n e); rest = h.rest }
-
--- A plain write to a name is a step through it.
-written-through : (a : ℕ) (o : Origin) (hs : List (Given ℕ)) → is_plain_write_to a (record { origin = o; hand = hs }) ≡ true → through_by a o hs ≡ true
-unfolding is_plain_write_to is_plain_assignment through_by
-written-through a (of_node kind label flags role) hs e =
-    rw (and_left (eqb kind 20) (not (compound flags)) (and_left (eqb kind 20 && not (compound flags)) (aims a hs) e), and_right (eqb kind 20 && not (compound flags)) (aims a hs) e) (or-true ((eqb kind 4 || eqb kind 29) && eqb label a))
-written-through a (of_declarator k b) hs e = absurd (false≢true e)
-written-through a of_other hs e = absurd (false≢true e)
-
--- What is asked of a marked step is true in a file if it is of the meaning.
-module _ (f : File) (m : Meaning ℕ Bench) (a : ℕ) (x : Step ℕ) where
-  alike_in : InFile f m x → (s s' : Store ℕ Bench) → AgreeBut a s s' → ActsAlike a (m.acts x s) (m.acts x s') → ActsAlike a ((meaning_in f m).acts x s) ((meaning_in f m).acts x s')
-  alike_in (as_meant same) s s' h g = rw (same s, same s') g
-  alike_in (sets-name b w e sets) s s' h g = rw (sets s, sets s') (both-done (set-alike a b w s s' h))
-
-  unwritten_in : InFile f m x → through a x ≡ false → (s s' : Store ℕ Bench) (w : ℕ) → (m.acts x s ≡ done w s' → s'.names a ≡ s.names a) → (meaning_in f m).acts x s ≡ done w s' → s'.names a ≡ s.names a
-  unfolding set store_of
-  unwritten_in (as_meant same) e s s' w h g = h (sym (same s) ∙ g)
-  unwritten_in (sets-name b v p sets) e s s' w h g = ap (λ act. (store_of act s).names a) (sym g ∙ sets s) ∙ second (eqb a b) _ _ (ne_eqb a b (λ z. false≢true (sym e ∙ written-through a x.origin x.hand (subst (λ c. is_plain_write_to c x ≡ true) (sym z) p))))
-
 -- what is asked of a step or choice that is as the other meaning has it: it reads no name
 abbrev pub Unread : Meaning ℕ Bench → Asked → Step ℕ → Type 0
 Unread free choice x = (a : ℕ) (s s' : Store ℕ Bench) → AgreeBut a s s' → free.chooses x s ≡ free.chooses x s'
 Unread free (step false) x = (a : ℕ) (s s' : Store ℕ Bench) → AgreeBut a s s' → free.reads x s ≡ free.reads x s'
 Unread free (step true) x = (a : ℕ) (s s' : Store ℕ Bench) → AgreeBut a s s' → ActsAlike a (free.acts x s) (free.acts x s')
 
--- a file that makes no direct eval; one that makes no step of a pattern, a using or a kind 6 statement
-abbrev pub NoEval : File → Type 0
-NoEval f = (d : Asked) (o : Origin) (w : ℕ) (hs : List (Given ℕ)) → makes d f (record { origin = o; hand = record { value = w; beside = bare_eval } ∷ hs }) ≡ false
-
-abbrev pub NodesAlone : File → Type 0
-NodesAlone f = (d : Asked) (o : Origin) (hs : List (Given ℕ)) → is_of_node o ≡ false → makes d f (record { origin = o; hand = hs }) ≡ false
-
 -- The facts are true for statements that make no direct eval, and no declarator's or kind 6 statement's step that reads a name.
 module _ (free : Meaning ℕ Bench) (names : List NameFacts) (ss : List Statement)
-    (no-eval : NoEval (file_of names ss))
+    (no-eval : (d : Asked) (o : Origin) (w : ℕ) (hs : List (Given ℕ)) → makes d (file_of names ss) (record { origin = o; hand = record { value = w; beside = bare_eval } ∷ hs }) ≡ false)
     (unread : (d : Asked) (x : Step ℕ) → makes d (file_of names ss) x ≡ true → is_of_node x.origin ≡ false → Unread free d x) where
   abbrev f : File
   f = file_of names ss
@@ -346,37 +264,29 @@ module _ (free : Meaning ℕ Bench) (names : List NameFacts) (ss : List Statemen
   unfolding bench store_of
   unwritten a x k n e s s' w h = ap (λ act. (store_of act s).names a) (sym (rw (bound (step true) x.origin x.hand k n) at h)) ∙ unwritten-by (halts x.origin x.hand) a x s e
 
-  unwritten-here : (a : ℕ) (x : Step ℕ) → makes (step true) f x ≡ true → is_of_node x.origin ≡ true → through a x ≡ false → (s s' : Store ℕ Bench) (w : ℕ) → (meaning_in f (bench free)).acts x s ≡ done w s' → s'.names a ≡ s.names a
-  unwritten-here a x k n e s s' w h = unwritten_in f (bench free) a x (in_file f (bench free) x) e s s' w (unwritten a x k n e s s' w) h
-
   this_fixed : (label flags : ℕ) (s s' : Store ℕ Bench) → (bench free).reads (this_step label flags) s' ≡ (bench free).reads (this_step label flags) s
   unfolding bench looks is_free is_direct first_or
   this_fixed label flags s s' = refl
 
-  pub true_of : (folds : List Fold) → Each (FoldKeeps names (meaning_in f (bench free)) start) folds → Facts f folds (meaning_in f (bench free)) start
-  unfolding meaning_in writing
+  pub true_of : (folds : List Fold) → Each (FoldKeeps names (bench free) start) folds → Facts f folds (bench free) start
   true_of folds kept = record {
     reads-hidden = λ a h x k e s s' g. reads-alike a x k s s' g;
     chooses-hidden = λ a h x k e s s' g. chooses-alike a x k s s' g;
-    acts-hidden = λ a h x k e s s' g. alike_in f (bench free) a x (in_file f (bench free) x) s s' g (acts-alike a x k s s' g);
-    writes-hidden = λ a h x k n e s s' w g. unwritten-here a x k n e s s' w g;
-    settled-kept = λ a h x k n e s s' w g. unwritten-here a x k n e s s' w g;
+    acts-hidden = λ a h x k e s s' g. acts-alike a x k s s' g;
+    writes-hidden = λ a h x k n e s s' w g. unwritten a x k n e s s' w g;
+    settled-kept = λ a h x k n e s s' w g. unwritten a x k n e s s' w g;
     this-kept = λ h x k n s s' w g label flags i. this_fixed label flags s s';
     targets-kept = kept;
   }
 
--- They are true for statements of which only nodes make steps, whatever direct evals, patterns, usings and kind 6 statements do.
-pub true_of_nodes : (free : Meaning ℕ Bench) (names : List NameFacts) (ss : List Statement) → NoEval (file_of names ss) → NodesAlone (file_of names ss) → (folds : List Fold)
-    → Each (FoldKeeps names (meaning_in (file_of names ss) (bench free)) start) folds → Facts (file_of names ss) folds (meaning_in (file_of names ss) (bench free)) start
-true_of_nodes free names ss no-eval alone = true_of free names ss no-eval (λ d x k e. absurd (false≢true (sym (alone d x.origin x.hand e) ∙ k)))
-
--- Such is the file.
-script-no_eval : NoEval script
+-- The file makes no direct eval, and no step of a pattern, a using or a kind 6 statement; so its facts are true whatever these
+-- do.
+script-no_eval : (d : Asked) (o : Origin) (w : ℕ) (hs : List (Given ℕ)) → makes d script (record { origin = o; hand = record { value = w; beside = bare_eval } ∷ hs }) ≡ false
 unfolding made
 script-no_eval choice o w hs = refl
 script-no_eval (step b) o w hs = refl
 
-nodes-alone : NodesAlone script
+nodes-alone : (d : Asked) (o : Origin) (hs : List (Given ℕ)) → is_of_node o ≡ false → makes d script (record { origin = o; hand = hs }) ≡ false
 unfolding made is_of_node
 nodes-alone d (of_node kind label flags role) hs e = absurd (false≢true (sym e))
 nodes-alone choice (of_declarator k a) hs e = simp and-false
@@ -384,46 +294,24 @@ nodes-alone (step b) (of_declarator k a) hs e = simp and-false
 nodes-alone choice of_other hs e = simp and-false
 nodes-alone (step b) of_other hs e = simp and-false
 
--- Bytes, by computation.
-unfoldable pub are_bytes : List ℕ → Bool
-are_bytes [] = true
-are_bytes (b ∷ bs) = ltb b 256 && are_bytes bs
+pub met : (free : Meaning ℕ Bench) → Facts script trace (bench free) start
+met free = true_of free facts statements script-no_eval (λ d x k e. absurd (false≢true (sym (nodes-alone d x.origin x.hand e) ∙ k))) trace (kept_here free, tt)
 
-pub bytes_of : (bs : List ℕ) → are_bytes bs ≡ true → Bytes bs
-unfolding are_bytes
-bytes_of [] e i = omega arith
-bytes_of (b ∷ bs) e zero = ltb-true b 256 (and_left (ltb b 256) (are_bytes bs) e)
-bytes_of (b ∷ bs) e (suc i) = bytes_of bs (and_right (ltb b 256) (are_bytes bs) e) i
-
--- The file is accepted, this is its fold, it has none of the four shapes, and no merge leaves `eval`.
-pub accepted : (are_bytes (print script) ≡ true) × (refusal (print script) 1000 ≡ 0)
-unfolding computed are_bytes
-accepted = (refl, refl)
-
-pub folds_so : ((fold_file script).file ≡ result) × ((fold_file script).trace ≡ trace) × ((fold_file script).kept ≡ 1 ∷ 2 ∷ [])
+-- The file is accepted, this is its fold, and it has none of the four shapes.
+pub accepted : refusal (print script) 1000 ≡ 0
 unfolding computed
-folds_so = (refl, refl, refl)
+accepted = refl
+
+folds_so : ((fold_file script).file ≡ result) × ((fold_file script).trace ≡ trace)
+unfolding computed
+folds_so = (refl, refl)
 
 pub shapeless : (shape_p script ≡ false) × (shape_q script ≡ false) × (shape_r script ≡ false) × (shape_s script ≡ false)
-unfolding shape-tests
+unfolding some_in declared_in shape_p first_declared shape_q eval_whole some_eval shape_r shape_s context_of facts_of scope_of climb read_crosses_function_boundary name_read target_of first_target flags_of count declarators_in all_declarators initializer_tree initializer_trees statement_trees all_trees
 shapeless = (refl, refl, refl, refl)
 
-pub no_eval-left : leaves_eval facts (fold_file script).merges ≡ false
-unfolding computed shape-tests leaves_eval
-no_eval-left = refl
-
-pub met : (free : Meaning ℕ Bench) → Facts script (fold_file script).trace (meaning_in script (bench free)) start
-met free =
-    subst (λ folds. Facts script folds (meaning_in script (bench free)) start) (sym folds_so.1)
-    (true_of_nodes free facts statements script-no_eval nodes-alone trace (kept_here free script))
-
--- So demand 3 speaks of it.
-pub spoken_of : Demand3 → (free : Meaning ℕ Bench) → SameRun script result (fold_file script).kept (run_file (bench free) script start) (run_file (bench free) result start)
-unfolding computed
-spoken_of d free = d (print script) 1000 (bytes_of (print script) accepted.0) accepted.1 shapeless.2 no_eval-left ℕ Bench (bench free) start (met free)
-
 -- a node's step through no name, with this in hand
-abbrev pub did : ℕ → ℕ → List (Given ℕ) → Step ℕ
+abbrev did : ℕ → ℕ → List (Given ℕ) → Step ℕ
 did kind flags hs = record { origin = of_node kind 0 flags value; hand = hs }
 
 -- Both runs call `f`, assign, call `g`; `o.x` gave 40 to the assignment.
@@ -441,26 +329,16 @@ result-steps free = refl
 -- no name but v is folded
 not_v : (a : ℕ) → folded script result a ≡ false → eqb a 0 ≡ false
 unfolding folded declared_in declarators_in all_declarators
-not_v a e = turned a 0 ∙ by (eqb 0 a) e
+not_v a e = ne_eqb a 0 (λ z. eqb-false 0 a (two (eqb 0 a) e) (sym z))
   where
-    by : (b : Bool) → (b || false) && true ≡ false → b ≡ false
-    by true h = h
-    by false h = refl
-
--- no name is merged
-none-merged : (a : ℕ) → times a [] ≡ one (merged script result a)
-unfolding times merged is_bare declared_with declarators_in all_declarators
-none-merged a = simp and-false
+    two : (b : Bool) → (b || false) && true ≡ false → b ≡ false
+    two true h = h
+    two false h = refl
 
 -- The two runs are the same.
-pub same : (free : Meaning ℕ Bench) → SameRun script result (fold_file script).kept (run_file (bench free) script start) (run_file (bench free) result start)
-unfolding ran_of computed givers is_among values_kept
-same free = record {
-  out = [];
-  steps = the_same (the_same (the_same at-end));
-  values = refl;
-  end = ends-alike none-merged (λ a e. second (eqb a 0) _ _ (not_v a e)) refl;
-}
+pub same : (free : Meaning ℕ Bench) → SameRun script result (run_file (bench free) script start) (run_file (bench free) result start)
+unfolding ran_of
+same free = record { steps = refl; values = refl; end = both-ended (λ a e. second (eqb a 0) _ _ (not_v a e)) refl }
 
 -- The call of `g`, of the same kind, label and flags as that of `f`, changes what `o.x` gives.
 changed_by_g : (free : Meaning ℕ Bench) → (value_of (run facts (bench free) property target (begin start)) ≡ 40) × (value_of (run facts (bench free) property target (state_of (run facts (bench free) (call 2) value (begin start)))) ≡ 90)

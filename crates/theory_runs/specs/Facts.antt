@@ -8,14 +8,13 @@ use Rattle.records.specs.Count.{reads_of, targets_of}
 use Rattle.records.specs.File.{File, all_trees}
 use Rattle.records.specs.declared.layout.NameFacts.{NameFacts}
 use Rattle.theory_runs.specs.Store.{Store}
-use Rattle.theory_runs.specs.Hand.{Given, Hand}
+use Rattle.theory_runs.specs.Hand.{Beside, nothing, bare_eval, target_name, opaque_target, member, Given, Hand}
 use Rattle.theory_runs.specs.Step.{value, target, Origin, of_node, of_declarator, of_other, Step}
 use Rattle.theory_runs.specs.Meaning.{Act, done, stops, Meaning}
 use Rattle.theory_runs.specs.Form.{Form, form, cleared, is_plain}
 use Rattle.theory_runs.specs.State.{State, gave}
 use Rattle.theory_runs.specs.Run.{run}
 use Rattle.theory_runs.specs.Script.{run_statements, begin}
-unfoldable pub use Rattle.theory_runs.specs.Writes.{is_target_of, aims}
 use Rattle.theory_runs.specs.Settled.{facts_of, settled, this_blocks}
 use Rattle.theory_runs.specs.Shapes.{declared, some_node}
 use Rattle.theory_runs.specs.Makes.{makes_read, makes_choice, makes_act}
@@ -33,6 +32,18 @@ writes_stand f a =
 -- "the position of any node in the file leaves it unblocked"
 unfoldable pub this_unblocked : File → Bool
 this_unblocked f = some_node f (λ n kids. not (this_blocks f n.position))
+
+-- an assignment has this name for its target in hand
+unfoldable pub is_target_of : {Value : Type 0} → ℕ → Beside Value → Bool
+is_target_of a nothing = false
+is_target_of a bare_eval = false
+is_target_of a (target_name b) = eqb b a
+is_target_of a (opaque_target l) = false
+is_target_of a (member o k) = false
+
+unfoldable pub aims : {Value : Type 0} → ℕ → Hand Value → Bool
+aims a [] = false
+aims a (h ∷ hs) = is_target_of a h.beside
 
 -- A step or choice is made through a "name node, target name or declarator" of a name: by such a node or declarator, or by
 -- an assignment to that target.
@@ -103,9 +114,8 @@ module _ {Value Rest : Type 0} (names : List NameFacts) (m : Meaning Value Rest)
 abbrev pub this_step : {Value : Type 0} → ℕ → ℕ → Step Value
 this_step label flags = record { origin = of_node 5 label flags value; hand = [] }
 
--- The facts of a file are true of a meaning. The meaning is the one that the file is run by (`meaningIn`). They are asked of the
--- steps and choices that the file can make, and of no others; the last one of the folds made in it, or in what earlier folds left
--- of it, on the run from a starting store.
+-- The facts of a file are true of a meaning. They are asked of the steps and choices that the file can make, and of no others;
+-- the last one of the folds made in it, or in what earlier folds left of it, on the run from a starting store.
 pub record Facts {Value Rest : Type 0} (f : File) (trace : List Fold) (m : Meaning Value Rest) (start : Store Value Rest) : Type 0 where
   -- "no hidden part reads a recorded name whose stated reads all stand in the file": on stores that differ at this name
   -- alone, every step and choice of the file does the same, but those through it

@@ -8,13 +8,11 @@ pub mod Meaning
 pub mod Form
 pub mod State
 pub mod Run
+pub mod Script
 pub mod Settled
 pub mod Shapes
-pub mod Writes
-pub mod Script
 pub mod InHand
 pub mod Makes
 pub mod Facts
-pub mod Same
 pub mod Demand
 pub mod Steady

@@ -9,7 +9,6 @@ use Rattle.theory_runs.specs.Step.{value, of_declarator, of_other, Step}
 use Rattle.theory_runs.specs.Meaning.{Meaning}
 use Rattle.theory_runs.specs.State.{Log, State, Out, gave, cut, stop, Part, bind}
 use Rattle.theory_runs.specs.Run.{stepped, run}
-use Rattle.theory_runs.specs.Writes.{meaning_in}
 
 -- a declarator whose name is a pattern
 abbrev pub is_pattern : ℕ → Bool
@@ -91,4 +90,4 @@ unfoldable pub begin : {Value Rest : Type 0} → Store Value Rest → State Valu
 begin s = record { store = s; log = record { steps = []; values = [] } }
 
 unfoldable pub run_file : {Value Rest : Type 0} → Meaning Value Rest → File → Store Value Rest → Ran Value Rest
-run_file m f s = ran (run_statements f.names (meaning_in f m) f.statements (begin s))
+run_file m f s = ran (run_statements f.names m f.statements (begin s))

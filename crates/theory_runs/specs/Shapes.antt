@@ -7,7 +7,6 @@ use Rattle.records.specs.Place.{root}
 use Rattle.records.specs.Count.{name_read}
 use Rattle.records.specs.File.{Initializer, bare, given, Declarator, File, all_trees, all_declarators}
 use Rattle.records.specs.declared.layout.NameFacts.{NameFacts}
-use Rattle.statements_rules.specs.Trace.{Merge, received, remained}
 use Rattle.theory_runs.specs.Settled.{facts_of, is_var, crosses}
 
 -- whether a test holds of some node, with its children
@@ -53,13 +52,6 @@ some_eval facts (d ∷ ds) = eval_whole facts d.initializer || some_eval facts d
 -- (R) "unresolved `eval` as a whole initializer" (ECMA-262 13.3.6.1: a call of bare `eval` is a direct one)
 unfoldable pub shape_r : File → Bool
 shape_r f = some_eval f.names (all_declarators f.statements)
-
--- "a file in which these merges leave `eval` as a whole initializer counts as holding shape R" (document 02, (c)): as what a name
--- received, or as what remained of an initializer.
-unfoldable pub leaves_eval : List NameFacts → List Merge → Bool
-leaves_eval facts [] = false
-leaves_eval facts (received a t ∷ ms) = eval_whole facts (given t) || leaves_eval facts ms
-leaves_eval facts (remained i ∷ ms) = eval_whole facts i || leaves_eval facts ms
 
 -- (S) "a var name read across a function scope"
 unfoldable pub shape_s : File → Bool

@@ -1,11 +1,10 @@
--- The facts of a file are facts of the result of its base fold, each by the meaning that it gives: names whose reads or writes all
--- stand get fewer, settled names stay, positions and the steps that can be made only get fewer, and these do the same. Assumes
--- nothing.
+-- The facts of a file are facts of its result: names whose reads or writes all stand get fewer, settled names stay,
+-- positions and the steps that can be made only get fewer. Assumes nothing.
 use Prim.Native.Nat.{ℕ, zero, suc, ◌/◌, ◌%◌, ◌≤◌, ◌<◌}
 use native.Mathlib.Omega.{arith}
 use mathlib.Core.Bool.{Bool, true, false, ◌&&◌, ◌||◌}
-use mathlib.Core.List.{List, [], ◌∷◌, ◌++◌}
-use mathlib.Core.Path.{◌≡◌, refl, sym, ap, ◌∙◌, subst}
+use mathlib.Core.List.{List, [], ◌∷◌}
+use mathlib.Core.Path.{◌≡◌, refl, sym, ap, subst}
 use lib.ListN.{length, get_or}
 use lib.Dec.{eqb, ltb}
 use borrow.Author.Tests.{eqb-true, eq-eqb, ne_eqb}
@@ -15,46 +14,51 @@ use Rattle.records.specs.Script.{no_name, flags_of}
 use Rattle.records.specs.Facts.{good_name, no_counts, good_unresolved}
 use Rattle.records.specs.Tree.{Trees, none, more}
 use Rattle.records.specs.Count.{name_read, target_name, reads_of, targets_of}
-use Rattle.records.specs.File.{one, Declarator, File, names_of, scopes_of, all_trees, all_declarators, read}
+use Rattle.records.specs.File.{one, Declarator, Statement, File, names_of, scopes_of, all_trees, all_declarators, read}
 use Rattle.records.specs.Refusal.{refusal}
 use Rattle.records.specs.declared.layout.NameFacts.{NameFacts}
 use Rattle.records.proofs.Tests.{both, clash}
 use Rattle.walk_rules.specs.Context.{context_of, facts_of as factsIn}
 use Rattle.statements_rules.specs.Trace.{Fold}
-use Rattle.statements_rules.specs.Fold.{with_statements, folded_file, fold_file_by, base_fold_file}
+use Rattle.statements_rules.specs.Fold.{with_statements, folded_file, fold_file}
 use Rattle.statements_rules.proofs.Totals.{context_kept}
 use Rattle.theory_runs.specs.Store.{Store}
 use Rattle.theory_runs.specs.Step.{Step}
-use Rattle.theory_runs.specs.Meaning.{Act, Meaning}
+use Rattle.theory_runs.specs.Meaning.{Meaning}
 use Rattle.theory_runs.specs.Settled.{facts_of, settled}
 use Rattle.theory_runs.specs.Shapes.{some_in, some_of, declared, eval_whole, some_eval, shape_r}
 use Rattle.theory_runs.specs.Makes.{Asked, choice, step, makes}
-use Rattle.theory_runs.specs.Writes.{writing, meaning_in}
-use Rattle.theory_runs.specs.Facts.{reads_stand, writes_stand, this_unblocked, ActsAlike, Each, FoldKeeps, this_step, Facts}
+use Rattle.theory_runs.specs.Facts.{reads_stand, writes_stand, this_unblocked, Each, FoldKeeps, this_step, Facts}
 use Rattle.records_laws.proofs.Accepted.{Accepted as Passed, accepted as rows-passed}
 use Rattle.theory_preservation.proofs.Tests.{one_on, one_of, by_or}
 use Rattle.theory_preservation.proofs.Positions.{somewhere}
-use Rattle.theory_preservation.proofs.Moves.{file-moves}
+use Rattle.theory_preservation.proofs.Moves.{Moves, done, fold, stop, drop, file-moves}
 use Rattle.theory_preservation.proofs.Totals.{total_of, sums, declarations, program-uses, program-sums, program-declarators}
 use Rattle.theory_preservation.proofs.Declared.{declared-found, declared-none}
-use Rattle.theory_preservation.proofs.Fine.{Fine, unblocked_at}
-use Rattle.theory_preservation.proofs.Whole.{moves-fine}
-use Rattle.theory_preservation.proofs.Within.{WithinProgram, WithinFold}
+use Rattle.theory_preservation.proofs.Fine.{Accepted, Fine, unblocked_at}
+use Rattle.theory_preservation.proofs.FineKept.{stop_fine, drop_fine}
+use Rattle.theory_preservation.proofs.FoldKept.{fold_fine}
 use Rattle.theory_preservation.proofs.MovesWithin.{file-within, moves-within}
-use Rattle.theory_preservation.proofs.MeaningOf.{SameKinds, acts-same, keep_by-result, base-kinds}
-use Rattle.theory_demands.proofs.Rows.{every-at, good_names, few-names, recorded_in, names-accepted, file-fine}
+use Rattle.theory_demands.proofs.Rows.{every-at, good_names, few-names, recorded_in, names-accepted, file_fine}
 use Rattle.theory_demands.proofs.Growth.{moves-names}
 
 -- A name that the result declares is declared in the file.
-pub declared-back : (f : File) (a : ℕ) → declared (base_fold_file f).file a ≡ true → declared f a ≡ true
+pub declared-back : (f : File) (a : ℕ) → declared (fold_file f).file a ≡ true → declared f a ≡ true
 declared-back f a e =
-    let g = (base_fold_file f).file in
+    let g = (fold_file f).file in
     let x = moves-names f (λ y. one (eqb y a)) (file-moves f) in
     by (declarations a g.statements) refl x
   where
-    by : (n : ℕ) → declarations a (base_fold_file f).file.statements ≡ n → declarations a (base_fold_file f).file.statements ≤ declarations a f.statements → declared f a ≡ true
-    by zero z x = clash (declared (base_fold_file f).file a) (declared-none a (base_fold_file f).file.statements z) e
+    by : (n : ℕ) → declarations a (fold_file f).file.statements ≡ n → declarations a (fold_file f).file.statements ≤ declarations a f.statements → declared f a ≡ true
+    by zero z x = clash (declared (fold_file f).file a) (declared-none a (fold_file f).file.statements z) e
     by (suc n) z x = declared-found a f.statements (omega arith)
+
+-- every program on the way is fine, the last one too
+moves_fine : (f : File) → Accepted f → {P Q : List Statement} {φs : List Fold} → Moves (context_of f) P Q φs → Fine f P → Fine f Q
+moves_fine f a (done e g) fine = rw e fine
+moves_fine f a {P = P} (fold M φ ψs m e k) fine = moves_fine f a k (fold_fine f P M φ m a fine)
+moves_fine f a {P = P} (stop M m k) fine = moves_fine f a k (stop_fine f P M m fine)
+moves_fine f a {P = P} (drop M m k) fine = moves_fine f a k (drop_fine f P M m fine)
 
 -- the other way round of what the rows give: a node somewhere, and initializers that are `eval`
 sums-some : (φ : ℕ → Bool) (ts : Trees) → some_of (λ n kids. φ n.position) ts ≡ true → 1 ≤ sums (λ t. one (somewhere φ t)) ts
@@ -87,10 +91,6 @@ good_recorded scopes n g r = by (unresolved n.flags) refl
         absurd (low n.flags (eqb-true (n.flags % 128) 0 z) (eqb-true (n.flags / 16 % 2) 1 r))
     by false u = u
 
-each-join : {A : Type 0} (P : A → Type 0) (xs ys : List A) → Each P xs → Each P ys → Each P (xs ++ ys)
-each-join P [] ys h g = g
-each-join P (x ∷ xs) ys (p, h) g = (p, each-join P xs ys h g)
-
 -- The tests of the facts, of the result and of the file.
 reads_all : (reads reads' stated : ℕ) → reads' ≤ reads → reads ≤ stated → eqb reads' stated ≡ true → eqb reads stated ≡ true
 reads_all reads reads' stated l k e = let x = eqb-true reads' stated e in eq-eqb reads stated (omega arith)
@@ -100,13 +100,13 @@ module _ (bytes : List ℕ) (room : ℕ) (e : refusal bytes room ≡ 0) (plain :
   f = read bytes
 
   abbrev g : File
-  g = (base_fold_file f).file
+  g = (fold_file f).file
 
   abbrev rows : Passed bytes room
   rows = rows-passed bytes room e
 
-  pub result-fine : Fine f g.statements
-  result-fine = moves-fine f (names-accepted bytes room rows) (file-moves f) (file-fine bytes room rows plain)
+  pub result_fine : Fine f g.statements
+  result_fine = moves_fine f (names-accepted bytes room rows) (file-moves f) (file_fine bytes room rows plain)
 
   known : (a : ℕ) → recorded (facts_of f a).flags ≡ true → (a < length (names_of bytes)) × (unresolved (flags_of f.names a) ≡ false)
   unfolding context_of factsIn flags_of read
@@ -127,8 +127,8 @@ module _ (bytes : List ℕ) (room : ℕ) (e : refusal bytes room ≡ 0) (plain :
       let few = few-names bytes room rows in
       let n : eqb no_number a ≡ false = ne_eqb no_number a (λ z. omega (arith, l, few)) in
       let c = (names-accepted bytes room rows).counts a r (rw u) in
-      let i = result-fine.reads_in a n in
-      let j = result-fine.targets-in a n in
+      let i = result_fine.reads_in a n in
+      let j = result_fine.targets-in a n in
       let i₁ = program-uses name_read a f.statements in
       let i₂ = program-uses name_read a g.statements in
       let j₁ = program-uses (λ n kids. target_name n) a f.statements in
@@ -136,7 +136,7 @@ module _ (bytes : List ℕ) (room : ℕ) (e : refusal bytes room ≡ 0) (plain :
       record { fewer_reads = omega (arith, i, i₁, i₂); fewer-targets = omega (arith, j, j₁, j₂); stated-reads = c.0; stated-targets = c.1 }
 
   same-facts : (a : ℕ) → facts_of g a ≡ facts_of f a
-  same-facts a = ap (λ ctx. factsIn ctx a) (context_kept false f)
+  same-facts a = ap (λ ctx. factsIn ctx a) (context_kept f)
 
   reads-back : (a : ℕ) → reads_stand g a ≡ true → reads_stand f a ≡ true
   unfolding reads_stand
@@ -154,79 +154,49 @@ module _ (bytes : List ℕ) (room : ℕ) (e : refusal bytes room ≡ 0) (plain :
       rw (declared-back f a d, r, reads_all (targets_of a (all_trees f.statements)) (targets_of a (all_trees g.statements)) (facts_of f a).writes u.fewer-targets u.stated-targets x)
 
   settled_back : (a : ℕ) → settled g a ≡ true → settled f a ≡ true
-  unfolding settled fold_file_by folded_file with_statements context_of
+  unfolding settled fold_file folded_file with_statements context_of
   settled_back a h = h
 
   unblocked-trees : this_unblocked g ≡ true → some_of (λ n kids. unblocked_at f n.position) (all_trees g.statements) ≡ true
-  unfolding this_unblocked fold_file_by folded_file with_statements
+  unfolding this_unblocked fold_file folded_file with_statements
   unblocked-trees h = h
 
   this-back : this_unblocked g ≡ true → this_unblocked f ≡ true
   this-back h =
       let x = sums-some (unblocked_at f) (all_trees g.statements) (unblocked-trees h) in
       let y = program-sums (λ t. one (somewhere (unblocked_at f) t)) g.statements in
-      result-fine.this-in (omega (arith, x, y))
+      result_fine.this-in (omega (arith, x, y))
 
   same_names : g.names ≡ f.names
-  unfolding fold_file_by folded_file with_statements
+  unfolding fold_file folded_file with_statements
   same_names = refl
 
   -- the result has no shape R either
   pub plain-result : shape_r g ≡ false
   unfolding shape_r
   plain-result =
-      let x = result-fine.no-evals in
+      let x = result_fine.no-evals in
       let y = program-declarators (λ d. one (eval_whole f.names d.initializer)) g.statements in
       subst (λ ns. some_eval ns (all_declarators g.statements) ≡ false) (sym same_names) (evals-none f.names (all_declarators g.statements) (omega (arith, x, y)))
 
-  same-kinds : SameKinds f g
-  same-kinds = base-kinds f (names-accepted bytes room rows) (file-fine bytes room rows plain)
-
-  module _ (Value : Type 0) where
-    within : Each (WithinFold Value f) (base_fold_file f).trace × WithinProgram Value f g.statements
-    within = moves-within Value f (file-moves f) (names-accepted bytes room rows) (file-fine bytes room rows plain) (file-within Value f)
+  -- so facts that are true of a meaning for the file are so for its result
+  module _ {Value Rest : Type 0} (m : Meaning Value Rest) (start : Store Value Rest) where
+    keeps-passed : (φs : List Fold) → Each (FoldKeeps f.names m start) φs → Each (FoldKeeps g.names m start) φs
+    unfolding fold_file folded_file with_statements
+    keeps-passed φs h = h
 
     -- a step or choice of the result is one of the file
     made-back : (d : Asked) (x : Step Value) → makes d g x ≡ true → makes d f x ≡ true
-    unfolding makes fold_file_by folded_file with_statements
-    made-back d x k = within.1 d x k
+    unfolding makes fold_file folded_file with_statements
+    made-back d x k = (moves-within Value f (file-moves f) (names-accepted bytes room rows) (file_fine bytes room rows plain) (file-within Value f)).1 d x k
 
-    -- so folds of the file and of its result speak of what the file can make
-    fold-back : (φ : Fold) → WithinFold Value g φ → WithinFold Value f φ
-    unfolding fold_file_by folded_file with_statements
-    fold-back φ (a, b, c) = ((λ d x e. made-back d x (a d x e)), (λ d x e. made-back d x (b d x e)), (λ d x e. made-back d x (c d x e)))
-
-    folds-back : (φs : List Fold) → Each (WithinFold Value g) φs → Each (WithinFold Value f) φs
-    folds-back [] h = tt
-    folds-back (φ ∷ φs) (a, h) = (fold-back φ a, folds-back φs h)
-
-    pub folds-made : (φs : List Fold) → Each (WithinFold Value (base_fold_file (read bytes)).file) φs → Each (WithinFold Value (read bytes)) ((base_fold_file (read bytes)).trace ++ φs)
-    folds-made φs h = each-join (WithinFold Value f) (base_fold_file f).trace φs within.0 (folds-back φs h)
-
-  -- Facts that are true of a meaning for the file are so for its result.
-  module _ {Value Rest : Type 0} (m : Meaning Value Rest) (start : Store Value Rest) where
-    abbrev act : File → Step Value → Store Value Rest → Act Value Rest
-    act h x s = (meaning_in h m).acts x s
-
-    -- a step of the result does the same by both
-    act-same : (x : Step Value) (s : Store Value Rest) → makes (step true) g x ≡ true → act f x s ≡ act g x s
-    act-same x s k = acts-same f g same-kinds m x s k
-
-    alike-passed : (a : ℕ) (x : Step Value) (s s' : Store Value Rest) → makes (step true) g x ≡ true → ActsAlike a (act f x s) (act f x s') → ActsAlike a (act g x s) (act g x s')
-    alike-passed a x s s' k h = subst (λ y. ActsAlike a y (act g x s')) (act-same x s k) (subst (λ y. ActsAlike a (act f x s) y) (act-same x s' k) h)
-
-    keeps-passed : (φs : List Fold) → Each (WithinFold Value g) φs → Each (FoldKeeps f.names (meaning_in f m) start) φs → Each (FoldKeeps g.names (meaning_in g m) start) φs
-    unfolding fold_file_by folded_file with_statements
-    keeps-passed φs w h = keep_by-result f g same-kinds m start φs w h
-
-    pub facts-passed : (trace φs : List Fold) → Facts f trace (meaning_in f m) start → Each (WithinFold Value g) φs → Each (FoldKeeps f.names (meaning_in f m) start) φs → Facts g φs (meaning_in g m) start
-    unfolding meaning_in writing
-    facts-passed trace φs facts w kept = record {
-      reads-hidden = λ a h x k. facts.reads-hidden a (reads-back a h) x (made-back Value (step false) x k);
-      chooses-hidden = λ a h x k. facts.chooses-hidden a (reads-back a h) x (made-back Value choice x k);
-      acts-hidden = λ a h x k e s s' l. alike-passed a x s s' k (facts.acts-hidden a (reads-back a h) x (made-back Value (step true) x k) e s s' l);
-      writes-hidden = λ a h x k n e s s' w q. facts.writes-hidden a (writes-back a h) x (made-back Value (step true) x k) n e s s' w (act-same x s k ∙ q);
-      settled-kept = λ a h x k n e s s' w q. facts.settled-kept a (settled_back a h) x (made-back Value (step true) x k) n e s s' w (act-same x s k ∙ q);
-      this-kept = λ h x k n s s' w q label flags l. facts.this-kept (this-back h) x (made-back Value (step true) x k) n s s' w (act-same x s k ∙ q) label flags (made-back Value (step false) (this_step label flags) l);
-      targets-kept = keeps-passed φs w kept;
+    pub facts-passed : (trace φs : List Fold) → Facts f trace m start → Each (FoldKeeps f.names m start) φs → Facts g φs m start
+    facts-passed trace φs facts kept = record {
+      reads-hidden = λ a h x k. facts.reads-hidden a (reads-back a h) x (made-back (step false) x k);
+      chooses-hidden = λ a h x k. facts.chooses-hidden a (reads-back a h) x (made-back choice x k);
+      acts-hidden = λ a h x k. facts.acts-hidden a (reads-back a h) x (made-back (step true) x k);
+      writes-hidden = λ a h x k. facts.writes-hidden a (writes-back a h) x (made-back (step true) x k);
+      settled-kept = λ a h x k. facts.settled-kept a (settled_back a h) x (made-back (step true) x k);
+      this-kept = λ h x k n s s' w e label flags l. facts.this-kept (this-back h) x (made-back (step true) x k) n s s' w e label flags (made-back (step false) (this_step label flags) l);
+      targets-kept = keeps-passed φs kept;
     }

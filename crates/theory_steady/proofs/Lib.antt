@@ -1,4 +1,4 @@
--- The base fold repeated until the bytes stay the same.
+-- A fold repeated until the bytes stay the same.
 pub mod Bared
 pub mod Again
 pub mod StillWithin

@@ -1,4 +1,4 @@
--- The repeat of the base fold: at most D + 2 runs, and the fold of its result is the result. Assumes nothing.
+-- The repeat of the fold: at most D + 2 runs, and the fold of its result is the result. Assumes nothing.
 use Prim.Native.Nat.{ℕ, zero, suc, ◌+◌, ◌*◌, ◌≤◌}
 use native.Mathlib.Omega.{arith}
 use mathlib.Core.Bool.{Bool, true, false, cond}
@@ -12,7 +12,7 @@ use Rattle.records.specs.Record.{header_of}
 use Rattle.records.specs.File.{File, read, print}
 use Rattle.records.specs.Refusal.{refusal}
 use Rattle.records.proofs.Tests.{both, clash}
-use Rattle.statements_rules.specs.Fold.{base_fold_file, Returned, accepted, base_fold_bytes}
+use Rattle.statements_rules.specs.Fold.{fold_file, Returned, accepted, fold_bytes}
 use Rattle.theory_demands.proofs.Laws.{returned, result-is, result-reads, accepted-again, bytes_again, room_most, declarators-taken}
 use Rattle.statements_rules.specs.Steady.{same_bytes, Repeated, at_rest, run_before, repeat_fold, refused_repeat, steady_bytes}
 use Rattle.theory_runs.specs.Steady.{folds_of}
@@ -40,22 +40,22 @@ no_length [] e = refl
 no_length (x ∷ xs) e = absurd (omega arith)
 
 module _ (bytes : List ℕ) (room : ℕ) (e : refusal bytes room ≡ 0) where
-  folds_are : (base_fold_bytes bytes room).folds ≡ length (base_fold_file (read bytes)).trace
+  folds_are : (fold_bytes bytes room).folds ≡ length (fold_file (read bytes)).trace
   unfolding accepted
-  folds_are = ap (λ (r : Returned). r.folds) (returned false bytes room e)
+  folds_are = ap (λ (r : Returned). r.folds) (returned bytes room e)
 
   -- A run with no fold is followed by one that leaves the bytes as they are.
-  pub still_bytes : (base_fold_bytes bytes room).folds ≡ 0 → (base_fold_bytes (base_fold_bytes bytes room).result room).result ≡ (base_fold_bytes bytes room).result
+  pub still_bytes : (fold_bytes bytes room).folds ≡ 0 → (fold_bytes (fold_bytes bytes room).result room).result ≡ (fold_bytes bytes room).result
   still_bytes z =
-      result-is false (base_fold_bytes bytes room).result room (accepted-again false bytes room e)
-      ∙ ap (λ (f : File). print (base_fold_file f).file) (result-reads false bytes room e)
-      ∙ ap print (still-run (read bytes) (no_length (base_fold_file (read bytes)).trace (sym folds_are ∙ z)))
-      ∙ sym (result-is false bytes room e)
+      result-is (fold_bytes bytes room).result room (accepted-again bytes room e)
+      ∙ ap (λ (f : File). print (fold_file f).file) (result-reads bytes room e)
+      ∙ ap print (still-run (read bytes) (no_length (fold_file (read bytes)).trace (sym folds_are ∙ z)))
+      ∙ sym (result-is bytes room e)
 
 -- the file after so many runs
 unfoldable pub file_after : ℕ → File → File
 file_after zero f = f
-file_after (suc runs) f = file_after runs (base_fold_file f).file
+file_after (suc runs) f = file_after runs (fold_file f).file
 
 -- What a repeat comes to, from bytes, in so many runs at most.
 pub record Reached (bytes : List ℕ) (room most : ℕ) (w : Repeated) : Type 0 where
@@ -63,7 +63,7 @@ pub record Reached (bytes : List ℕ) (room most : ℕ) (w : Repeated) : Type 0 
   pub measured : w.result_length ≡ length w.result
   -- the result is accepted, and its fold is the result
   pub accepted : refusal w.result room ≡ 0
-  pub steady : (base_fold_bytes w.result room).result ≡ w.result
+  pub steady : (fold_bytes w.result room).result ≡ w.result
   -- the runs, the last one counted
   pub some : 1 ≤ w.runs
   pub runs : w.runs ≤ most
@@ -81,7 +81,7 @@ pub record Reached (bytes : List ℕ) (room most : ℕ) (w : Repeated) : Type 0 
 
 module _ (bytes : List ℕ) (room : ℕ) (e : refusal bytes room ≡ 0) where
   abbrev w : Returned
-  w = base_fold_bytes bytes room
+  w = fold_bytes bytes room
 
   -- a run that leaves the bytes as they are is the last
   last-run : w.result ≡ bytes → Reached bytes room 1 (run_before w (at_rest w.result))
@@ -89,20 +89,20 @@ module _ (bytes : List ℕ) (room : ℕ) (e : refusal bytes room ≡ 0) where
   last-run same = record {
     number = refl;
     measured = refl;
-    accepted = accepted-again false bytes room e;
-    steady = ap (λ bs. (base_fold_bytes bs room).result) same;
+    accepted = accepted-again bytes room e;
+    steady = ap (λ bs. (fold_bytes bs room).result) same;
     some = omega arith;
     runs = omega arith;
-    taken = let x = declarators-taken false bytes room e in omega (arith, x);
-    lower = room_most false bytes room e;
+    taken = let x = declarators-taken bytes room e in omega (arith, x);
+    lower = room_most bytes room e;
     unchanged = λ n q. let z : n ≡ 0 = omega (arith, q) in rw z (ap read (sym same));
-    ran = result-reads false bytes room e;
-    traced = let x = folds_are bytes room e in let y = length-append (base_fold_file (read bytes)).trace [] in omega (arith, x, y);
-    small = bytes_again false bytes room e;
+    ran = result-reads bytes room e;
+    traced = let x = folds_are bytes room e in let y = length-append (fold_file (read bytes)).trace [] in omega (arith, x, y);
+    small = bytes_again bytes room e;
   }
 
   -- the file before the last of the runs that follow a run
-  later : (v : Repeated) (n : ℕ) → n ≡ v.runs → 1 ≤ v.runs → read w.result ≡ (base_fold_file (read bytes)).file
+  later : (v : Repeated) (n : ℕ) → n ≡ v.runs → 1 ≤ v.runs → read w.result ≡ (fold_file (read bytes)).file
       → ((k : ℕ) → v.runs ≡ suc k → file_after k (read w.result) ≡ read v.result) → file_after n (read bytes) ≡ read v.result
   unfolding file_after
   later v zero q some files h = absurd (omega (arith, q, some))
@@ -112,7 +112,7 @@ module _ (bytes : List ℕ) (room : ℕ) (e : refusal bytes room ≡ 0) where
   run-before : (most : ℕ) (v : Repeated) → Reached w.result room most v → Reached bytes room (suc most) (run_before w v)
   unfolding run_before file_after folds_of
   run-before most v h =
-      let files = result-reads false bytes room e in
+      let files = result-reads bytes room e in
       record {
         number = h.number;
         measured = h.measured;
@@ -120,17 +120,17 @@ module _ (bytes : List ℕ) (room : ℕ) (e : refusal bytes room ≡ 0) where
         steady = h.steady;
         some = omega arith;
         runs = let x = h.runs in omega (arith, x);
-        taken = let x = declarators-taken false bytes room e in let y = h.taken in omega (arith, x, y);
-        lower = let x = room_most false bytes room e in let y = h.lower in omega (arith, x, y);
+        taken = let x = declarators-taken bytes room e in let y = h.taken in omega (arith, x, y);
+        lower = let x = room_most bytes room e in let y = h.lower in omega (arith, x, y);
         unchanged = λ n q. later v n (omega (arith, q)) h.some files h.unchanged;
         ran = h.ran ∙ ap (file_after v.runs) files;
         traced =
             let x = folds_are bytes room e in
             let y = h.traced in
             let z = ap (λ f. length (folds_of v.runs f)) files in
-            let l = length-append (base_fold_file (read bytes)).trace (folds_of v.runs (base_fold_file (read bytes)).file) in
+            let l = length-append (fold_file (read bytes)).trace (folds_of v.runs (fold_file (read bytes)).file) in
             omega (arith, x, y, z, l);
-        small = λ b. h.small (bytes_again false bytes room e b);
+        small = λ b. h.small (bytes_again bytes room e b);
       }
 
   -- in more runs
@@ -151,34 +151,34 @@ module _ (bytes : List ℕ) (room : ℕ) (e : refusal bytes room ≡ 0) where
   }
 
 -- bytes that stay the same: one run
-steady_repeat : (most : ℕ) (bytes : List ℕ) (room : ℕ) → (base_fold_bytes bytes room).result ≡ bytes → 1 ≤ most → repeat_fold most bytes room ≡ run_before (base_fold_bytes bytes room) (at_rest (base_fold_bytes bytes room).result)
+steady_repeat : (most : ℕ) (bytes : List ℕ) (room : ℕ) → (fold_bytes bytes room).result ≡ bytes → 1 ≤ most → repeat_fold most bytes room ≡ run_before (fold_bytes bytes room) (at_rest (fold_bytes bytes room).result)
 unfolding repeat_fold
 steady_repeat zero bytes room same l = absurd (omega arith)
 steady_repeat (suc most) bytes room same l =
-    let x : same_bytes (base_fold_bytes bytes room).result bytes ≡ true = subst (λ bs. same_bytes bs bytes ≡ true) (sym same) (same_self bytes) in
+    let x : same_bytes (fold_bytes bytes room).result bytes ≡ true = subst (λ bs. same_bytes bs bytes ≡ true) (sym same) (same_self bytes) in
     rw x
 
-steady-run : (most : ℕ) (bytes : List ℕ) (room : ℕ) → refusal bytes room ≡ 0 → (base_fold_bytes bytes room).result ≡ bytes → 1 ≤ most → Reached bytes room 1 (repeat_fold most bytes room)
+steady-run : (most : ℕ) (bytes : List ℕ) (room : ℕ) → refusal bytes room ≡ 0 → (fold_bytes bytes room).result ≡ bytes → 1 ≤ most → Reached bytes room 1 (repeat_fold most bytes room)
 steady-run most bytes room e same l = rw (steady_repeat most bytes room same l) (last-run bytes room e same)
 
 -- The repeat, with D + 2 runs or more to make: a run with a fold takes a declarator, one without is followed by the last.
 pub reach : (most : ℕ) (bytes : List ℕ) (room : ℕ) → refusal bytes room ≡ 0 → (header_of bytes).declarators + 2 ≤ most → Reached bytes room ((header_of bytes).declarators + 2) (repeat_fold most bytes room)
 unfolding repeat_fold
 reach zero bytes room e l = absurd (omega arith)
-reach (suc most) bytes room e l = by (same_bytes (base_fold_bytes bytes room).result bytes) refl (base_fold_bytes bytes room).folds refl (λ k. reach most (base_fold_bytes bytes room).result room (accepted-again false bytes room e) k)
+reach (suc most) bytes room e l = by (same_bytes (fold_bytes bytes room).result bytes) refl (fold_bytes bytes room).folds refl (λ k. reach most (fold_bytes bytes room).result room (accepted-again bytes room e) k)
   where
     result : List ℕ
-    result = (base_fold_bytes bytes room).result
+    result = (fold_bytes bytes room).result
 
-    by : (b : Bool) → same_bytes result bytes ≡ b → (folds : ℕ) → (base_fold_bytes bytes room).folds ≡ folds
+    by : (b : Bool) → same_bytes result bytes ≡ b → (folds : ℕ) → (fold_bytes bytes room).folds ≡ folds
         → ((header_of result).declarators + 2 ≤ most → Reached result room ((header_of result).declarators + 2) (repeat_fold most result room))
-        → Reached bytes room ((header_of bytes).declarators + 2) (run_before (base_fold_bytes bytes room) (cond b (at_rest result) (repeat_fold most result room)))
+        → Reached bytes room ((header_of bytes).declarators + 2) (run_before (fold_bytes bytes room) (cond b (at_rest result) (repeat_fold most result room)))
     by true same folds z again = within bytes room e 1 _ _ (omega arith) (last-run bytes room e (same_true result bytes same))
     by false same zero z again =
         within bytes room e 2 _ _ (omega arith)
-        (run-before bytes room e 1 (repeat_fold most result room) (steady-run most result room (accepted-again false bytes room e) (still_bytes bytes room e z) (omega arith)))
+        (run-before bytes room e 1 (repeat_fold most result room) (steady-run most result room (accepted-again bytes room e) (still_bytes bytes room e z) (omega arith)))
     by false same (suc n) z again =
-        let d = declarators-taken false bytes room e in
+        let d = declarators-taken bytes room e in
         within bytes room e (suc ((header_of result).declarators + 2)) _ _ (omega (arith, d, z))
         (run-before bytes room e ((header_of result).declarators + 2) (repeat_fold most result room) (again (omega (arith, d, z))))
 
@@ -188,14 +188,14 @@ unfolding repeat_fold
 same_repeat zero most' bytes room e l l' = absurd (omega arith)
 same_repeat (suc most) zero bytes room e l l' = absurd (omega arith)
 same_repeat (suc most) (suc most') bytes room e l l' =
-    ap (λ v. run_before (base_fold_bytes bytes room) (cond (same_bytes result bytes) (at_rest result) v)) (by (base_fold_bytes bytes room).folds refl (λ k k'. same_repeat most most' result room (accepted-again false bytes room e) k k'))
+    ap (λ v. run_before (fold_bytes bytes room) (cond (same_bytes result bytes) (at_rest result) v)) (by (fold_bytes bytes room).folds refl (λ k k'. same_repeat most most' result room (accepted-again bytes room e) k k'))
   where
     result : List ℕ
-    result = (base_fold_bytes bytes room).result
+    result = (fold_bytes bytes room).result
 
-    by : (folds : ℕ) → (base_fold_bytes bytes room).folds ≡ folds → ((header_of result).declarators + 2 ≤ most → (header_of result).declarators + 2 ≤ most' → repeat_fold most result room ≡ repeat_fold most' result room) → repeat_fold most result room ≡ repeat_fold most' result room
+    by : (folds : ℕ) → (fold_bytes bytes room).folds ≡ folds → ((header_of result).declarators + 2 ≤ most → (header_of result).declarators + 2 ≤ most' → repeat_fold most result room ≡ repeat_fold most' result room) → repeat_fold most result room ≡ repeat_fold most' result room
     by zero z again = steady_repeat most result room (still_bytes bytes room e z) (omega arith) ∙ sym (steady_repeat most' result room (still_bytes bytes room e z) (omega arith))
-    by (suc n) z again = let d = declarators-taken false bytes room e in again (omega (arith, d, z)) (omega (arith, d, z))
+    by (suc n) z again = let d = declarators-taken bytes room e in again (omega (arith, d, z)) (omega (arith, d, z))
 
 -- The laws of the repeat, of any accepted bytes.
 module _ (bytes : List ℕ) (room : ℕ) (e : refusal bytes room ≡ 0) where
@@ -217,29 +217,29 @@ module _ (bytes : List ℕ) (room : ℕ) (e : refusal bytes room ≡ 0) where
   last-unchanged = reached.unchanged
 
   -- "and that folding its result changes nothing"
-  pub result-steady : (base_fold_bytes (steady_bytes bytes room).result room).result ≡ (steady_bytes bytes room).result
+  pub result-steady : (fold_bytes (steady_bytes bytes room).result room).result ≡ (steady_bytes bytes room).result
   result-steady = reached.steady
 
   -- nor does the fold of the file that the result is read as
-  pub file-steady : (base_fold_file (read (steady_bytes bytes room).result)).file ≡ read (steady_bytes bytes room).result
-  file-steady = sym (result-reads false (steady_bytes bytes room).result room reached.accepted) ∙ ap read result-steady
+  pub file-steady : (fold_file (read (steady_bytes bytes room).result)).file ≡ read (steady_bytes bytes room).result
+  file-steady = sym (result-reads (steady_bytes bytes room).result room reached.accepted) ∙ ap read result-steady
 
   -- the bound cuts nothing short: with more runs to make it is the same
   pub more-runs : (most : ℕ) → (header_of bytes).declarators + 2 ≤ most → repeat_fold most bytes room ≡ steady_bytes bytes room
   more-runs most l = same_repeat most ((header_of bytes).declarators + 2) bytes room e l (omega arith) ∙ sym until_steady
 
   -- The repeat is a run and then, unless that left the bytes as they are, the repeat of what it left.
-  pub by_runs : steady_bytes bytes room ≡ run_before (base_fold_bytes bytes room) (cond (same_bytes (base_fold_bytes bytes room).result bytes) (at_rest (base_fold_bytes bytes room).result) (steady_bytes (base_fold_bytes bytes room).result room))
+  pub by_runs : steady_bytes bytes room ≡ run_before (fold_bytes bytes room) (cond (same_bytes (fold_bytes bytes room).result bytes) (at_rest (fold_bytes bytes room).result) (steady_bytes (fold_bytes bytes room).result room))
   by_runs =
-      let d = declarators-taken false bytes room e in
-      let result = (base_fold_bytes bytes room).result in
+      let d = declarators-taken bytes room e in
+      let result = (fold_bytes bytes room).result in
       sym (more-runs (suc ((header_of bytes).declarators + 2)) (omega arith))
       ∙ first_run
-      ∙ ap (λ v. run_before (base_fold_bytes bytes room) (cond (same_bytes result bytes) (at_rest result) v))
-      (same_repeat ((header_of bytes).declarators + 2) ((header_of result).declarators + 2) result room (accepted-again false bytes room e) (omega (arith, d)) (omega arith)
-      ∙ sym (unfold steady_bytes in rw (accepted-again false bytes room e)))
+      ∙ ap (λ v. run_before (fold_bytes bytes room) (cond (same_bytes result bytes) (at_rest result) v))
+      (same_repeat ((header_of bytes).declarators + 2) ((header_of result).declarators + 2) result room (accepted-again bytes room e) (omega (arith, d)) (omega arith)
+      ∙ sym (unfold steady_bytes in rw (accepted-again bytes room e)))
     where
-      first_run : repeat_fold (suc ((header_of bytes).declarators + 2)) bytes room ≡ run_before (base_fold_bytes bytes room) (cond (same_bytes (base_fold_bytes bytes room).result bytes) (at_rest (base_fold_bytes bytes room).result) (repeat_fold ((header_of bytes).declarators + 2) (base_fold_bytes bytes room).result room))
+      first_run : repeat_fold (suc ((header_of bytes).declarators + 2)) bytes room ≡ run_before (fold_bytes bytes room) (cond (same_bytes (fold_bytes bytes room).result bytes) (at_rest (fold_bytes bytes room).result) (repeat_fold ((header_of bytes).declarators + 2) (fold_bytes bytes room).result room))
       first_run = unfold repeat_fold in refl
 
 -- a refusal is the table's

@@ -6,23 +6,22 @@ use mathlib.Core.Path.{◌≡◌, refl, sym, ◌∙◌, subst}
 use Rattle.records.specs.File.{File, read}
 use Rattle.records.specs.Refusal.{refusal}
 use Rattle.records.proofs.Tests.{clash}
-use Rattle.statements_rules.specs.Fold.{base_fold_file, base_fold_bytes}
+use Rattle.statements_rules.specs.Trace.{Fold}
+use Rattle.statements_rules.specs.Fold.{fold_file, fold_bytes}
+use Rattle.theory_runs.specs.Store.{Store}
+use Rattle.theory_runs.specs.Meaning.{Meaning}
 use Rattle.theory_runs.specs.Script.{End, stopped, ended, Ran, run_file}
 use Rattle.theory_runs.specs.Shapes.{declared, shape_r}
-use Rattle.theory_runs.specs.Facts.{Each, FoldKeeps}
-use Rattle.theory_runs.specs.Writes.{meaning_in}
-use Rattle.theory_runs.specs.Same.{folded, SameBaseEnd, both_stopped, both-ended, SameBaseRun}
-use Rattle.theory_runs.specs.Demand.{BaseUnchanged}
+use Rattle.theory_runs.specs.Facts.{Each, FoldKeeps, Facts}
+use Rattle.theory_runs.specs.Demand.{folded, SameEnd, both_stopped, both-ended, SameRun, Unchanged}
 use Rattle.records_laws.proofs.Accepted.{accepted as rows-passed}
-use Rattle.theory_preservation.proofs.Within.{WithinFold}
-use Rattle.theory_preservation.proofs.OfAll.{facts-with}
-use Rattle.theory_preservation.proofs.Unchanged.{fold_unchanged-base}
-use Rattle.theory_demands.proofs.Rows.{names-accepted, file-fine}
+use Rattle.theory_preservation.proofs.Unchanged.{fold-unchanged}
+use Rattle.theory_demands.proofs.Rows.{names-accepted, file_fine}
 use Rattle.theory_demands.proofs.Laws.{result-reads, accepted-again}
 use Rattle.statements_rules.specs.Steady.{steady_bytes}
 use Rattle.theory_runs.specs.Steady.{folds_of, Demand3UntilSteady}
 use Rattle.theory_steady.proofs.Repeat.{file_after, reached}
-use Rattle.theory_steady.proofs.FactsPassed.{declared-back, plain-result, folds-made, facts-passed}
+use Rattle.theory_steady.proofs.FactsPassed.{declared-back, plain-result, facts-passed}
 
 -- One file, its result, and what that comes to: no name is declared on the way.
 not_folded : (x y z : Bool) → (y ≡ true → x ≡ true) → (z ≡ true → y ≡ true) → (x && not z) ≡ false → ((x && not y) ≡ false) × ((y && not z) ≡ false)
@@ -41,19 +40,19 @@ module _ (f g h : File) (x : Declares f g) (y : Declares g h) where
   unfolding folded
   folded-parts a e = not_folded (declared f a) (declared g a) (declared h a) (x a) (y a) e
 
-  then-end : {Value Rest : Type 0} {a b c : End Value Rest} → SameBaseEnd f g a b → SameBaseEnd g h b c → SameBaseEnd f h a c
+  then-end : {Value Rest : Type 0} {a b c : End Value Rest} → SameEnd f g a b → SameEnd g h b c → SameEnd f h a c
   then-end both_stopped both_stopped = both_stopped
   then-end (both-ended n r) (both-ended n' r') = both-ended (λ a e. n a (folded-parts a e).0 ∙ n' a (folded-parts a e).1) (r ∙ r')
 
   -- two runs that are the same, one after the other
-  pub then_same : {Value Rest : Type 0} {a b c : Ran Value Rest} → SameBaseRun f g a b → SameBaseRun g h b c → SameBaseRun f h a c
+  pub then_same : {Value Rest : Type 0} {a b c : Ran Value Rest} → SameRun f g a b → SameRun g h b c → SameRun f h a c
   then_same s t = record { steps = s.steps ∙ t.steps; values = s.values ∙ t.values; end = then-end s.end t.end }
 
-same_end : {Value Rest : Type 0} (f : File) (a : End Value Rest) → SameBaseEnd f f a a
+same_end : {Value Rest : Type 0} (f : File) (a : End Value Rest) → SameEnd f f a a
 same_end f stopped = both_stopped
 same_end f (ended s) = both-ended (λ a e. refl) refl
 
-pub same-run : {Value Rest : Type 0} (f : File) (a : Ran Value Rest) → SameBaseRun f f a a
+pub same-run : {Value Rest : Type 0} (f : File) (a : Ran Value Rest) → SameRun f f a a
 same-run f a = record { steps = refl; values = refl; end = same_end f a.end }
 
 each-parts : {A : Type 0} (P : A → Type 0) (xs ys : List A) → Each P (xs ++ ys) → Each P xs × Each P ys
@@ -63,38 +62,37 @@ each-parts P (x ∷ xs) ys (p, h) = let (a, b) = each-parts P xs ys h in ((p, a)
 declared-after : (runs : ℕ) (f : File) → Declares f (file_after runs f)
 unfolding file_after
 declared-after zero f a e = e
-declared-after (suc runs) f a e = declared-back f a (declared-after runs (base_fold_file f).file a e)
+declared-after (suc runs) f a e = declared-back f a (declared-after runs (fold_file f).file a e)
 
-plain-again : (bytes : List ℕ) (room : ℕ) → refusal bytes room ≡ 0 → shape_r (read bytes) ≡ false → shape_r (read (base_fold_bytes bytes room).result) ≡ false
-plain-again bytes room e plain = subst (λ h. shape_r h ≡ false) (sym (result-reads false bytes room e)) (plain-result bytes room e plain)
-
--- the folds of all runs speak of what the file can make
-folds-within : (runs : ℕ) (bytes : List ℕ) (room : ℕ) → refusal bytes room ≡ 0 → shape_r (read bytes) ≡ false → (Value : Type 0) → Each (WithinFold Value (read bytes)) (folds_of runs (read bytes))
-unfolding folds_of
-folds-within zero bytes room e plain Value = tt
-folds-within (suc runs) bytes room e plain Value =
-    folds-made bytes room e plain Value (folds_of runs (base_fold_file (read bytes)).file)
-    (subst (λ h. Each (WithinFold Value h) (folds_of runs h)) (result-reads false bytes room e) (folds-within runs (base_fold_bytes bytes room).result room (accepted-again false bytes room e) (plain-again bytes room e plain) Value))
+first-facts : {Value Rest : Type 0} (f : File) (trace φs : List Fold) (m : Meaning Value Rest) (start : Store Value Rest) → Facts f trace m start → Each (FoldKeeps f.names m start) φs → Facts f φs m start
+first-facts f trace φs m start facts kept = record {
+  reads-hidden = facts.reads-hidden;
+  chooses-hidden = facts.chooses-hidden;
+  acts-hidden = facts.acts-hidden;
+  writes-hidden = facts.writes-hidden;
+  settled-kept = facts.settled-kept;
+  this-kept = facts.this-kept;
+  targets-kept = kept;
+}
 
 -- The claim after any number of runs.
-pub unchanged-after : (runs : ℕ) (bytes : List ℕ) (room : ℕ) → refusal bytes room ≡ 0 → shape_r (read bytes) ≡ false → BaseUnchanged (read bytes) (file_after runs (read bytes)) (folds_of runs (read bytes))
+pub unchanged-after : (runs : ℕ) (bytes : List ℕ) (room : ℕ) → refusal bytes room ≡ 0 → shape_r (read bytes) ≡ false → Unchanged (read bytes) (file_after runs (read bytes)) (folds_of runs (read bytes))
 unfolding file_after folds_of
 unchanged-after zero bytes room e plain Value Rest m start facts = same-run (read bytes) (run_file m (read bytes) start)
 unchanged-after (suc runs) bytes room e plain Value Rest m start facts =
     let f = read bytes in
-    let g = (base_fold_file f).file in
+    let g = (fold_file f).file in
     let rows = rows-passed bytes room e in
-    let files = result-reads false bytes room e in
-    let again = plain-again bytes room e plain in
-    let (a, b) = each-parts (FoldKeeps f.names (meaning_in f m) start) (base_fold_file f).trace (folds_of runs g) facts.targets-kept in
-    let one = fold_unchanged-base f (names-accepted bytes room rows) (file-fine bytes room rows plain) Value Rest m start (facts-with f _ (base_fold_file f).trace (meaning_in f m) start facts a) in
-    let others : BaseUnchanged g (file_after runs g) (folds_of runs g) =
-    subst (λ h. BaseUnchanged h (file_after runs h) (folds_of runs h)) files
-    (unchanged-after runs (base_fold_bytes bytes room).result room (accepted-again false bytes room e) again) in
-    then_same f g (file_after runs g) (declared-back f) (declared-after runs g) one (others Value Rest m start (facts-passed bytes room e plain m start _ (folds_of runs g) facts (subst (λ h. Each (WithinFold Value h) (folds_of runs h)) files (folds-within runs (base_fold_bytes bytes room).result room (accepted-again false bytes room e) again Value)) b))
+    let files = result-reads bytes room e in
+    let (a, b) = each-parts (FoldKeeps f.names m start) (fold_file f).trace (folds_of runs g) facts.targets-kept in
+    let one = fold-unchanged f (names-accepted bytes room rows) (file_fine bytes room rows plain) Value Rest m start (first-facts f _ (fold_file f).trace m start facts a) in
+    let others : Unchanged g (file_after runs g) (folds_of runs g) =
+    subst (λ h. Unchanged h (file_after runs h) (folds_of runs h)) files
+    (unchanged-after runs (fold_bytes bytes room).result room (accepted-again bytes room e) (subst (λ h. shape_r h ≡ false) (sym files) (plain-result bytes room e plain))) in
+    then_same f g (file_after runs g) (declared-back f) (declared-after runs g) one (others Value Rest m start (facts-passed bytes room e plain m start _ (folds_of runs g) facts b))
 
 -- for every accepted file without shape R
 pub demand_3-until_steady : Demand3UntilSteady
 demand_3-until_steady bytes room small e plain =
     let runs = (steady_bytes bytes room).runs in
-    subst (λ g. BaseUnchanged (read bytes) g (folds_of runs (read bytes))) (sym (reached bytes room e).ran) (unchanged-after runs bytes room e plain)
+    subst (λ g. Unchanged (read bytes) g (folds_of runs (read bytes))) (sym (reached bytes room e).ran) (unchanged-after runs bytes room e plain)

@@ -1,4 +1,4 @@
--- A run of the base fold that makes no fold is followed by one that changes nothing. Assumes nothing.
+-- A run that makes no fold is followed by one that changes nothing. Assumes nothing.
 use Prim.Native.Nat.{ℕ, ◌+◌}
 use native.Mathlib.Omega.{arith}
 use mathlib.Core.Bool.{Bool, true, false, cond}
@@ -10,8 +10,7 @@ use Rattle.walk_rules.specs.Context.{Context, context_of, non_scoped_literal_onl
 use Rattle.statements_rules.specs.Trace.{Traced, pure, ◌>>=◌}
 use Rattle.statements_rules.specs.Declarators.{is_unsearched, is_using, Searched, ended, FromDeclarators, substitute_from_declarators, substitute_within_declaration}
 use Rattle.statements_rules.specs.Statements.{Kept, statement_of, in_file_order, FromStatements, after_declarators, from_statement, from_statements, substitute_in_statement, in_initializer, in_first_declarator, fold_statement, fold_statements}
-use Rattle.statements_rules.specs.Fold.{with_statements, folded_file, fold_file_by, base_fold_file}
-use Rattle.statements_rules.proofs.Base.{base-declaration, base-expression}
+use Rattle.statements_rules.specs.Fold.{with_statements, folded_file, fold_file}
 use Rattle.theory_steady.proofs.StillWithin.{just, both-empty, first-empty, declarators-still, SameFirst, declaration-still}
 
 -- the statements of those that are kept, the last first
@@ -30,19 +29,19 @@ module _ (ctx : Context) where
   -- their numbers.
   abbrev pub SteadyStatements : List Statement → Type 0
   SteadyStatements [] = Unit {0}
-  SteadyStatements (s ∷ ss) = SteadyStatements ss × ((number : ℕ) (ks : List Kept) → statements ks ≡ ss → (fold_statement false ctx number ks s).result ≡ record { number = number; statement = s } ∷ ks)
+  SteadyStatements (s ∷ ss) = SteadyStatements ss × ((number : ℕ) (ks : List Kept) → statements ks ≡ ss → (fold_statement ctx number ks s).result ≡ record { number = number; statement = s } ∷ ks)
 
   steady-behind : (ss earlier : List Statement) → SteadyStatements (reverse_aux ss earlier) → SteadyStatements earlier
   steady-behind [] earlier h = h
   steady-behind (s ∷ ss) earlier h = (steady-behind ss (s ∷ earlier) h).0
 
   -- such statements are kept by a run
-  steady-same : (number : ℕ) (ks : List Kept) (ss : List Statement) → SteadyStatements (reverse_aux ss (statements ks)) → statements (fold_statements false ctx number ks ss).result ≡ reverse (reverse_aux ss (statements ks))
+  steady-same : (number : ℕ) (ks : List Kept) (ss : List Statement) → SteadyStatements (reverse_aux ss (statements ks)) → statements (fold_statements ctx number ks ss).result ≡ reverse (reverse_aux ss (statements ks))
   unfolding fold_statements pure ◌>>=◌
   steady-same number ks [] h = map_reverse statement_of ks
   steady-same number ks (s ∷ ss) h =
       let e = (steady-behind ss (s ∷ statements ks) h).1 number ks refl in
-      ap (λ x. statements (fold_statements false ctx (number + 1) x ss).result) e ∙ steady-same (number + 1) (record { number = number; statement = s } ∷ ks) ss h
+      ap (λ x. statements (fold_statements ctx (number + 1) x ss).result) e ∙ steady-same (number + 1) (record { number = number; statement = s } ∷ ks) ss h
 
   -- A tree whose search from statements, whatever their numbers, leaves all as it is.
   abbrev StillFrom : List Statement → Tree → Type 0
@@ -156,47 +155,32 @@ module _ (ctx : Context) where
   first-again kind ss (d ∷ ds) es h (fs, e) ks g = rw e (h ks g fs)
 
   -- A statement that was taken without a fold.
-  abbrev TakenStill : List Kept → Traced (List Kept) → Type 0
-  TakenStill ks w = SteadyStatements (statements ks) → w.trace ≡ [] → SteadyStatements (statements w.result)
-
-  declaration-taken : (number : ℕ) (ks : List Kept) (kind : DeclarationKind) (ds : List Declarator)
-      → TakenStill ks (in_first_declarator ctx ks ds >>= λ w. substitute_within_declaration ctx (in_file_order w.left) kind w.target >>= λ ds'. pure (record { number = number; statement = declaration kind ds' } ∷ w.left))
-  unfolding pure ◌>>=◌
-  declaration-taken number ks kind ds h z =
+  fold-still : (number : ℕ) (ks : List Kept) (s : Statement) → SteadyStatements (statements ks) → (fold_statement ctx number ks s).trace ≡ [] → SteadyStatements (statements (fold_statement ctx number ks s).result)
+  unfolding fold_statement pure ◌>>=◌
+  fold-still number ks (declaration kind ds) h z =
       let w = in_first_declarator ctx ks ds in
       let v = substitute_within_declaration ctx (in_file_order w.result.left) kind w.result.target in
       let (y, x) = both-empty w.trace (v.trace ++ []) z in
       let (a, b) = first-still ks ds h y in
-      let s = declaration-still ctx kind (in_file_order w.result.left) w.result.target (first-empty v.trace [] x) in (
-        a,
-        (λ number ks e.
-            ap (λ (w : Traced (List Kept)). w.result) (base-declaration ctx number ks kind v.result)
-            ∙ rw (first-again kind (statements w.result.left) w.result.target v.result b s.first ks e, s.again (in_file_order ks))),
-      )
-
-  expression-taken : (number : ℕ) (ks : List Kept) (t : Tree) → TakenStill ks (substitute_in_statement ctx ks t >>= λ w. pure (record { number = number; statement = expression w.target } ∷ w.left))
-  unfolding pure ◌>>=◌
-  expression-taken number ks t h z =
+      let s = declaration-still ctx kind (in_file_order w.result.left) w.result.target (first-empty v.trace [] x) in
+      (a, (λ number ks e. rw (first-again kind (statements w.result.left) w.result.target v.result b s.first ks e, s.again (in_file_order ks))))
+  fold-still number ks (expression t) h z =
       let (a, b) = in_still ks t h (first-empty (substitute_in_statement ctx ks t).trace [] z) in
-      (a, (λ number ks e. ap (λ (w : Traced (List Kept)). w.result) (base-expression ctx number ks _) ∙ rw (b ks e)))
-
-  fold-still : (number : ℕ) (ks : List Kept) (s : Statement) → TakenStill ks (fold_statement false ctx number ks s)
-  fold-still number ks (declaration kind ds) = subst (TakenStill ks) (sym (base-declaration ctx number ks kind ds)) (declaration-taken number ks kind ds)
-  fold-still number ks (expression t) = subst (TakenStill ks) (sym (base-expression ctx number ks t)) (expression-taken number ks t)
-  fold-still number ks other = unfold fold_statement pure in λ h z. (h, (λ number ks e. refl))
+      (a, (λ number ks e. rw (b ks e)))
+  fold-still number ks other h z = (h, (λ number ks e. refl))
 
   -- All statements.
-  folds-still : (number : ℕ) (ks : List Kept) (ss : List Statement) → SteadyStatements (statements ks) → (fold_statements false ctx number ks ss).trace ≡ [] → SteadyStatements (reverse (statements (fold_statements false ctx number ks ss).result))
+  folds-still : (number : ℕ) (ks : List Kept) (ss : List Statement) → SteadyStatements (statements ks) → (fold_statements ctx number ks ss).trace ≡ [] → SteadyStatements (reverse (statements (fold_statements ctx number ks ss).result))
   unfolding fold_statements pure ◌>>=◌
   folds-still number ks [] h z = subst SteadyStatements (sym (ap reverse (map_reverse statement_of ks) ∙ reverse-reverse (statements ks))) h
   folds-still number ks (s ∷ ss) h z =
-      let w = fold_statement false ctx number ks s in
-      let (a, b) = both-empty w.trace (fold_statements false ctx (number + 1) w.result ss).trace z in
+      let w = fold_statement ctx number ks s in
+      let (a, b) = both-empty w.trace (fold_statements ctx (number + 1) w.result ss).trace z in
       folds-still (number + 1) w.result ss (fold-still number ks s h a) b
 
 -- A run with no fold is followed by one that leaves the file as it is.
-pub still-run : (f : File) → (base_fold_file f).trace ≡ [] → (base_fold_file (base_fold_file f).file).file ≡ (base_fold_file f).file
-unfolding fold_file_by folded_file with_statements context_of
+pub still-run : (f : File) → (fold_file f).trace ≡ [] → (fold_file (fold_file f).file).file ≡ (fold_file f).file
+unfolding fold_file folded_file with_statements context_of
 still-run f z =
-    let ss = statements (fold_statements false (context_of f) 0 [] f.statements).result in
+    let ss = statements (fold_statements (context_of f) 0 [] f.statements).result in
     ap (with_statements f) (steady-same (context_of f) 0 [] ss (folds-still (context_of f) 0 [] f.statements tt z) ∙ reverse-reverse ss)

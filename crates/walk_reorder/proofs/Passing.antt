@@ -35,9 +35,9 @@ pub passing-none : {table : List ℕ} {at many : ℕ} → Passing table at many 
 passing-none pre ts rest here due = (pre, ts, record { here = here; due = due; whole = refl; acts = refl })
 
 -- every tree that is due has a node inside the table
-pub pending-fits : {table : List ℕ} {at : ℕ} {ts : Trees} {rest pre : List ℕ} {next pending : ℕ} {effect : Bool} {left : Trees}
+pub pending_fits : {table : List ℕ} {at : ℕ} {ts : Trees} {rest pre : List ℕ} {next pending : ℕ} {effect : Bool} {left : Trees}
     → Left table at ts rest next pending effect pre left → 16 * next + 16 * pending ≤ length table
-pending-fits {left = left} l = omega (arith, room l.here, count-sizes left, l.due)
+pending_fits {left = left} l = omega (arith, room l.here, count-sizes left, l.due)
 
 -- one node more: its children are due in its place
 pub passing-more : {table : List ℕ} {at : ℕ} {ts : Trees} {rest pre : List ℕ} {next pending : ℕ} {effect : Bool} (left : Trees)

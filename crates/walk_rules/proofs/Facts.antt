@@ -92,6 +92,6 @@ this_cases =
     ∷ this_case 1 (frame 1 3 ∷ frame 1 9 ∷ []) 7 true  -- nor an earlier one of the scope
     ∷ []
 
-pub this-blocks : map (λ c. this_blocks c.this_scope c.frames c.position) this_cases ≡ map (λ c. c.answer) this_cases
+pub this_blocks_lem : map (λ c. this_blocks c.this_scope c.frames c.position) this_cases ≡ map (λ c. c.answer) this_cases
 unfolding computed this_cases
-this-blocks = refl
+this_blocks_lem = refl

@@ -13,7 +13,7 @@ use Rattle.records.specs.declared.layout.NodeRecord.{NodeRecord}
 use Rattle.records_laws.proofs.Series.{read_one}
 use Rattle.records_table.specs.Table.{work_bytes, unknown_end}
 use Rattle.records_table.specs.Laid.{laid, laids}
-use Rattle.records_table.proofs.Laid.{size_least, work-reads, work-length, laid-length, laid_split}
+use Rattle.records_table.proofs.Laid.{size_least, work_reads, work_length, laid-length, laid_split}
 use Rattle.walk_rules.specs.Substitute.{at, preserve_indirect_access}
 use Rattle.walk_rules.proofs.Sizes.{size-at}
 use Rattle.records_table.specs.Overwrites.{Overwrites}
@@ -66,7 +66,7 @@ module _ {b0 : List ℕ} {from target place used : ℕ} {t : Tree} {name : NodeR
     laid-length t (between ++ tail),
     length-append between tail,
     length-append (work_bytes name) (after ++ rest),
-    work-length name,
+    work_length name,
     length-append after rest,
   )
 
@@ -81,7 +81,7 @@ module _ {b0 : List ℕ} {from target place used : ℕ} {t : Tree} {name : NodeR
       let whole : b0 ≡ (pre ++ (laid t [] ++ between)) ++ tail = h.is ∙ rw (laid_split t (between ++ tail)) (simp append_assoc) in
       let starts : length (pre ++ (laid t [] ++ between)) ≡ 16 * place
       = omega (arith, h.starts, h.searched, h.found, length-append pre (laid t [] ++ between), length-append (laid t []) between, laid-length t []) in
-      read_one work-reads b0 (16 * place) (after ++ rest) name (ap (drop (16 * place)) whole ∙ drop_at (pre ++ (laid t [] ++ between)) tail (16 * place) starts)
+      read_one work_reads b0 (16 * place) (after ++ rest) name (ap (drop (16 * place)) whole ∙ drop_at (pre ++ (laid t [] ++ between)) tail (16 * place) starts)
 
   -- the replacement with its root's new position
   root-set : Tree
@@ -109,7 +109,7 @@ module _ {b0 : List ℕ} {from target place used : ℕ} {t : Tree} {name : NodeR
         = record {
           is = moved ∙ simp append_assoc;
           starts = omega (arith, h.starts, h.searched, h.found, root_set-length, length-append pre (between ++ laid root-set []), length-append between (laid root-set []));
-          seam = omega (arith, work-length name);
+          seam = omega (arith, work_length name);
           ends = omega (arith, h.ends);
         } in
         rw e (record {
@@ -124,7 +124,7 @@ module _ {b0 : List ℕ} {from target place used : ℕ} {t : Tree} {name : NodeR
     spliced_indirect e fits k = rw e (record {
       is = k (pre ++ between) (laid root-set []) (work_bytes name) after (take 16 rest) (drop 16 rest) (moved ∙ rw (take-append-drop 16 rest) (simp append_assoc))
           (omega (arith, h.starts, h.found, length-append pre between)) (omega (arith, h.searched, h.found, root_set-length))
-          (work-length name) h.ends (length-take-le 16 rest (omega (arith, behind)))
+          (work_length name) h.ends (length-take-le 16 rest (omega (arith, behind)))
           ∙ rw (ep, laid_indirect name.position t (after ++ drop 16 rest), laid_split root-set (after ++ drop 16 rest)) (simp append_assoc);
       ends = omega (arith, h.starts, h.searched, h.found, h.ends, placed-size true t (node_of name));
     })

@@ -44,25 +44,25 @@ module _ {l : List ℕ} {a b c : ℕ} {p x y s : List ℕ} (h : Blocks l a b c p
   shifted_down l1 n en k = k ∙ rw (before, second n en)
 
   -- the first moves up over the second; what then stands in its place
-  pub left_over_lem : ℕ → List ℕ
-  left_over_lem to = drop a (take to l)
+  pub left_over : ℕ → List ℕ
+  left_over to = drop a (take to l)
 
-  pub left_over_length : (to : ℕ) → to ≡ a + (c - b) → length (left_over_lem to) ≡ c - b
-  unfolding left_over_lem
+  pub left_over_length : (to : ℕ) → to ≡ a + (c - b) → length (left_over to) ≡ c - b
+  unfolding left_over
   left_over_length to et =
       let within = fits in omega (arith, length-drop a (take to l), length-take-le to l (omega arith))
 
-  pub shifted_up : (l1 : List ℕ) (to n : ℕ) → to ≡ a + (c - b) → n ≡ b - a → Copies l l1 to a n → l1 ≡ p ++ (left_over_lem to ++ (x ++ s))
-  unfolding left_over_lem
+  pub shifted_up : (l1 : List ℕ) (to n : ℕ) → to ≡ a + (c - b) → n ≡ b - a → Copies l l1 to a n → l1 ≡ p ++ (left_over to ++ (x ++ s))
+  unfolding left_over
   shifted_up l1 to n et en k =
       let within = fits in
-      let front : take to l ≡ p ++ left_over_lem to = sym (take-append-drop a (take to l)) ∙ ap (λ r. r ++ left_over_lem to) (take-take a to l (omega arith) ∙ before) in
-      k ∙ rw (first n en, behind (to + n) (omega arith)) (ap (λ z. z ++ (x ++ s)) front ∙ append_assoc p (left_over_lem to) (x ++ s))
+      let front : take to l ≡ p ++ left_over to = sym (take-append-drop a (take to l)) ∙ ap (λ r. r ++ left_over to) (take-take a to l (omega arith) ∙ before) in
+      k ∙ rw (first n en, behind (to + n) (omega arith)) (ap (λ z. z ++ (x ++ s)) front ∙ append_assoc p (left_over to) (x ++ s))
 
 -- the first block is kept aside, and written behind the second
-pub front-moved : (l l1 l2 block : List ℕ) (a b c to m n : ℕ) → m ≡ b - a → n ≡ c - b → to ≡ a + n → block ≡ take m (drop a l) → Copies l l1 a b n → Overwrites l1 l2 to block
+pub front_moved : (l l1 l2 block : List ℕ) (a b c to m n : ℕ) → m ≡ b - a → n ≡ c - b → to ≡ a + n → block ≡ take m (drop a l) → Copies l l1 a b n → Overwrites l1 l2 to block
     → Exchanges l l2 a b c
-front-moved l l1 l2 block a b c to m n em en et eb k o p x y s e ha hb hc =
+front_moved l l1 l2 block a b c to m n em en et eb k o p x y s e ha hb hc =
     let h : Blocks l a b c p x y s = record { is = e; starts = ha; seam = hb; ends = hc } in
     let within = fits h in
     let is : block ≡ x = eb ∙ first h m em in
@@ -77,7 +77,7 @@ pub end_moved : (l l1 l2 block : List ℕ) (a b c to m n : ℕ) → m ≡ b - a 
 end_moved l l1 l2 block a b c to m n em en et eb k o p x y s e ha hb hc =
     let h : Blocks l a b c p x y s = record { is = e; starts = ha; seam = hb; ends = hc } in
     let is : block ≡ y = eb ∙ second h n en in
-    o p (left_over_lem h to) (x ++ s) (shifted_up h l1 to m (omega arith) em k) ha (left_over_length h to (omega arith) ∙ rw is (omega arith)) ∙ rw is
+    o p (left_over h to) (x ++ s) (shifted_up h l1 to m (omega arith) em k) ha (left_over_length h to (omega arith) ∙ rw is (omega arith)) ∙ rw is
 
 -- k bytes of the first block go to the end, then the rest of it
 pub front_in_parts : (l l1 l2 : List ℕ) (a b c k part middle : ℕ) → part ≡ a + k → b ≡ middle + k → a ≤ middle → Exchanges l l1 a part c → Exchanges l1 l2 a middle c

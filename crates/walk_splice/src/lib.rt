@@ -3,7 +3,7 @@
 // 1291-1295), and by `preserve_indirect_access` for a tag (1789-1793).
 mod blocks;
 mod rotate;
-pub mod shift;
+mod shift;
 
 ghost use Rattle.std.specs.Prelude.{true, ◌≡◌, ◌+◌, ◌*◌, ◌≤◌, length};
 ghost use Rattle.walk_splice.specs.Splice.{HoldsName, Splices};

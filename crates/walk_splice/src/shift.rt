@@ -28,7 +28,7 @@ fn copy_record(nodes: &mut [u8], to: NodeId, from: NodeId)
 }
 
 // Moves records towards the front.
-pub fn move_down(nodes: &mut [u8], to: NodeId, from: NodeId, many: usize)
+pub(crate) fn move_down(nodes: &mut [u8], to: NodeId, from: NodeId, many: usize)
     requires records { (to.0 ≤ from.0) × (16 * from.0 + 16 * many ≤ length nodes.old) }
     ensures copied { Copies nodes.old nodes.new (16 * to.0) (16 * from.0) (16 * many) }
 {

@@ -16,26 +16,26 @@ use Rattle.records.proofs.Tests.{neither, every-from}
 use Rattle.walk_rules.specs.This.{has_owner, frames_from_owner, is_initialised_at, this_blocks}
 
 -- no frame behind the i that are left has the scope; `waits` says that none of them was initialised
-pub record Searching (read_at : ℕ → Frame) (len n from scope position : ℕ) (waits : Bool) (i : ℕ) : Type 0 where
+pub record Searching (readAt : ℕ → Frame) (len n from scope position : ℕ) (waits : Bool) (i : ℕ) : Type 0 where
   pub within : i ≤ n
-  pub unowned : has_owner scope (records_from read_at len (n - i) (from + len * i)) ≡ false
-  pub judged : waits ≡ every_from (λ k f. not (is_initialised_at position f)) 0 (records_from read_at len (n - i) (from + len * i))
+  pub unowned : has_owner scope (records_from readAt len (n - i) (from + len * i)) ≡ false
+  pub judged : waits ≡ every_from (λ k f. not (is_initialised_at position f)) 0 (records_from readAt len (n - i) (from + len * i))
 
-module _ {read_at : ℕ → Frame} {len n from scope position : ℕ} where
-  pub searching_none : Searching read_at len n from scope position true n
+module _ {readAt : ℕ → Frame} {len n from scope position : ℕ} where
+  pub searching_none : Searching readAt len n from scope position true n
   unfolding records_from has_owner every_from
   searching_none = let none : n - n ≡ 0 = omega arith in record { within = omega arith; unowned = rw none; judged = rw none }
 
-  pub searching_more : {waits : Bool} {i : ℕ} (f : Frame) (b : Bool) (j : ℕ) → Searching read_at len n from scope position waits i → i ≡ j + 1
-      → f ≡ read_at (from + len * j) → b ≡ is_initialised_at position f → eqb f.scope scope ≡ false
-      → Searching read_at len n from scope position (not b && waits) j
+  pub searching_more : {waits : Bool} {i : ℕ} (f : Frame) (b : Bool) (j : ℕ) → Searching readAt len n from scope position waits i → i ≡ j + 1
+      → f ≡ readAt (from + len * j) → b ≡ is_initialised_at position f → eqb f.scope scope ≡ false
+      → Searching readAt len n from scope position (not b && waits) j
   unfolding has_owner every_from
   searching_more {waits} {i} f b j p ei ef eb eo = record {
     within = omega arith;
-    unowned = rw (one_more read_at len n from i j ei p.within, ← ef, eo) p.unowned;
+    unowned = rw (one_more readAt len n from i j ei p.within, ← ef, eo) p.unowned;
     judged =
-        rw (one_more read_at len n from i j ei p.within, ← ef, eb, p.judged)
-        (ap (λ (w : Bool). not (is_initialised_at position f) && w) (every-from (λ g. not (is_initialised_at position g)) 0 1 (records_from read_at len (n - i) (from + len * i))));
+        rw (one_more readAt len n from i j ei p.within, ← ef, eb, p.judged)
+        (ap (λ (w : Bool). not (is_initialised_at position f) && w) (every-from (λ g. not (is_initialised_at position g)) 0 1 (records_from readAt len (n - i) (from + len * i))));
   }
 
 -- no frame counts where none has the scope
@@ -45,35 +45,35 @@ none_owned scope [] e = refl
 none_owned scope (f ∷ fs) e = let p = neither (eqb f.scope scope) (has_owner scope fs) e in rw (p.0, p.1)
 
 -- where some frame of the last n - k has the scope, only those count
-owner_kept : (read_at : ℕ → Frame) (len n from scope k : ℕ) → k ≤ n → has_owner scope (records_from read_at len (n - k) (from + len * k)) ≡ true
-    → (has_owner scope (records_from read_at len n from) ≡ true)
-    × (frames_from_owner scope (records_from read_at len n from) ≡ frames_from_owner scope (records_from read_at len (n - k) (from + len * k)))
+owner_kept : (readAt : ℕ → Frame) (len n from scope k : ℕ) → k ≤ n → has_owner scope (records_from readAt len (n - k) (from + len * k)) ≡ true
+    → (has_owner scope (records_from readAt len n from) ≡ true)
+    × (frames_from_owner scope (records_from readAt len n from) ≡ frames_from_owner scope (records_from readAt len (n - k) (from + len * k)))
 unfolding has_owner frames_from_owner
-owner_kept read_at len n from scope zero h e =
-    let all = all_left read_at len n from 0 (omega arith) in (rw (← all) e, rw (← all))
-owner_kept read_at len n from scope (suc k) h e =
-    let front = one_more read_at len n from (suc k) k (omega arith) h in
-    let before = owner_kept read_at len n from scope k (omega arith) (rw (front, e) (or-true (eqb (read_at (from + len * k)).scope scope))) in
+owner_kept readAt len n from scope zero h e =
+    let all = all_left readAt len n from 0 (omega arith) in (rw (← all) e, rw (← all))
+owner_kept readAt len n from scope (suc k) h e =
+    let front = one_more readAt len n from (suc k) k (omega arith) h in
+    let before = owner_kept readAt len n from scope k (omega arith) (rw (front, e) (or-true (eqb (readAt (from + len * k)).scope scope))) in
     (before.0, before.1 ∙ rw (front, e))
 
-module _ {read_at : ℕ → Frame} {len n from scope position : ℕ} where
+module _ {readAt : ℕ → Frame} {len n from scope position : ℕ} where
   -- the last frame that has the scope is found
-  pub searching_found : {waits : Bool} {i : ℕ} (f : Frame) (b : Bool) (j : ℕ) → Searching read_at len n from scope position waits i → i ≡ j + 1
-      → f ≡ read_at (from + len * j) → b ≡ is_initialised_at position f → eqb f.scope scope ≡ true → eqb scope no_number ≡ false
-      → (not b && waits) ≡ this_blocks scope (records_from read_at len n from) position
+  pub searching_found : {waits : Bool} {i : ℕ} (f : Frame) (b : Bool) (j : ℕ) → Searching readAt len n from scope position waits i → i ≡ j + 1
+      → f ≡ readAt (from + len * j) → b ≡ is_initialised_at position f → eqb f.scope scope ≡ true → eqb scope no_number ≡ false
+      → (not b && waits) ≡ this_blocks scope (records_from readAt len n from) position
   unfolding this_blocks has_owner frames_from_owner every_from
   searching_found {waits} {i} f b j p ei ef eb eo en =
-      let front = one_more read_at len n from i j ei p.within in
-      let kept = owner_kept read_at len n from scope j (omega (arith, p.within)) (rw (front, ← ef, eo)) in
+      let front = one_more readAt len n from i j ei p.within in
+      let kept = owner_kept readAt len n from scope j (omega (arith, p.within)) (rw (front, ← ef, eo)) in
       rw (en, kept.1, front, ← ef, p.unowned, eo, eb, p.judged)
-      (ap (λ (w : Bool). not (is_initialised_at position f) && w) (every-from (λ g. not (is_initialised_at position g)) 0 1 (records_from read_at len (n - i) (from + len * i))))
+      (ap (λ (w : Bool). not (is_initialised_at position f) && w) (every-from (λ g. not (is_initialised_at position g)) 0 1 (records_from readAt len (n - i) (from + len * i))))
 
   -- no frame has it
-  pub searching_all : {waits : Bool} {i : ℕ} → Searching read_at len n from scope position waits i → i ≤ 0 → eqb scope no_number ≡ false
-      → true ≡ this_blocks scope (records_from read_at len n from) position
+  pub searching_all : {waits : Bool} {i : ℕ} → Searching readAt len n from scope position waits i → i ≤ 0 → eqb scope no_number ≡ false
+      → true ≡ this_blocks scope (records_from readAt len n from) position
   unfolding this_blocks every_from
   searching_all {i = i} p h en =
-      rw (en, none_owned scope (records_from read_at len n from) (rw (← all_left read_at len n from i h) p.unowned))
+      rw (en, none_owned scope (records_from readAt len n from) (rw (← all_left readAt len n from i h) p.unowned))
 
 pub no_scope : (scope : ℕ) (fs : List Frame) (position : ℕ) → eqb scope no_number ≡ true → false ≡ this_blocks scope fs position
 unfolding this_blocks

@@ -10,7 +10,6 @@ pub fn kept(name: &str) -> Vec<u8> {
 }
 
 /// The script of this number.
-#[allow(dead_code)] // not every test needs one
 pub fn script(number: usize) -> Vec<u8> {
     kept(&format!("{number:02}"))
 }

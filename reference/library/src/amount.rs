@@ -16,8 +16,6 @@ pub struct Amount {
     pub long: u64,
     pub small: Table,
     pub passed: Table,
-    /// Parts of the rows behind small declarations.
-    pub merged_parts: u32,
     pub facts: usize,
     pub bytes: usize,
 }
@@ -29,7 +27,6 @@ pub const FULL: Amount = Amount {
     long: 20_000,
     small: Table { nodes: 4, one_in: 11 },
     passed: Table { nodes: 3, one_in: 1 },
-    merged_parts: 3,
     facts: 1,
     bytes: 1,
 };
@@ -41,7 +38,6 @@ pub const SHORT: Amount = Amount {
     long: 800,
     small: Table { nodes: 3, one_in: 5 },
     passed: Table { nodes: 3, one_in: 17 },
-    merged_parts: 2,
     facts: 7,
     bytes: 11,
 };

@@ -1,9 +1,8 @@
 //! One file, in several rooms, by the functions of the library and by the reference.
 
-use reference::fold::{Answer, fold};
+use reference::fold::Answer;
 use reference::generate::case::Case;
 use reference::measure::Measured;
-use reference::merges::Names;
 use reference::refusal::read_checked;
 use reference::steady::{Steady, runs};
 
@@ -24,8 +23,6 @@ pub struct Compared {
     /// Calls of each such function that returned 0, and that returned each row.
     returned: [u64; ROWS + 1],
     folds: [Folds; 2],
-    /// Assignments that `wsf_fold` merged, once for each file and each result.
-    merges: u64,
     measures: Measures,
 }
 
@@ -39,63 +36,46 @@ impl Compared {
             bytes: 0,
             returned: [0; ROWS + 1],
             folds: FUNCTIONS.map(Folds::new),
-            merges: 0,
             measures: Measures::default(),
         }
     }
 
     /// The file in the case's room, with a byte less and with more; then each result that comes of
-    /// it by the two folds, until all stay.
+    /// it, until one stays.
     pub fn case(&mut self, case: &Case) {
         self.files += 1;
         self.longest = self.longest.max(case.file.len());
+        let runs: Vec<Answer> = runs(&case.file, MOST_ROOM).collect();
         let more = 1 + usize::try_from(self.files % 97).expect("it is small");
         let mut rooms =
             vec![case.room, case.room.saturating_sub(1), (case.room + more).min(MOST_ROOM)];
         if self.files.is_multiple_of(ONE_IN) {
             rooms.extend([0, MOST_ROOM]);
         }
-        let mut made = self.file(&case.file, &rooms);
-        let mut next = 0;
-        while next < made.len() {
-            let again = Case::new("a result", made[next].clone());
-            for result in self.file(&again.file, &[again.room]) {
-                if !made.contains(&result) {
-                    made.push(result);
-                }
-            }
-            next += 1;
+        self.file(&case.file, &rooms, &runs);
+        for made in 1..runs.len() {
+            let again = Case::new("a result", runs[made - 1].result.clone());
+            self.file(&again.file, &[again.room], &runs[made..]);
         }
     }
 
-    /// The file folded by each function in each room, and measured once; the judge has the most
-    /// room. The results of the fold and of the base fold that differ from the file.
-    fn file(&mut self, file: &[u8], rooms: &[usize]) -> Vec<Vec<u8>> {
-        let answer = fold(file, MOST_ROOM);
-        let runs: Vec<Answer> = runs(file, MOST_ROOM).collect();
-        let base = runs[0].result.clone();
-        let steady = Steady::of_runs(runs);
+    /// The file folded by each function in each room, and measured once. The runs are those that
+    /// the judge makes in the most room.
+    fn file(&mut self, file: &[u8], rooms: &[usize], runs: &[Answer]) {
+        let steady = Steady::of_runs(runs.iter().cloned());
         for &room in rooms {
             let refused = read_checked(file, room).err();
             self.bytes += room as u64;
             self.returned[usize::try_from(refused.unwrap_or(0)).expect("it is a row")] += 1;
             let judged = match refused {
-                None => [Judged::from(&answer), Judged::from(&steady)],
+                None => [Judged::from(&runs[0]), Judged::from(&steady)],
                 Some(number) => [Judged::refusal(number); 2],
             };
             for (folds, judged) in self.folds.iter_mut().zip(judged) {
                 folds.call(&mut self.caller, file, room, judged);
             }
         }
-        self.measures.call(&mut self.caller, file, Measured::from(&answer));
-        if answer.number != 0 {
-            return Vec::new();
-        }
-        self.merges += Names::of_bytes(file, &answer.result).merged.len() as u64;
-        let mut results = vec![answer.result, base];
-        results.dedup();
-        results.retain(|result| result != file);
-        results
+        self.measures.call(&mut self.caller, file, Measured::from(&runs[0]));
     }
 
     pub fn add(&mut self, other: &Self) {
@@ -108,7 +88,6 @@ impl Compared {
         for (sum, more) in self.folds.iter_mut().zip(&other.folds) {
             sum.add(more);
         }
-        self.merges += other.merges;
         self.measures.add(&other.measures);
     }
 
@@ -124,14 +103,13 @@ impl Compared {
             .collect();
         format!(
             "files {}, longest {}; calls of each function that folds {}, of these accepted {}, \
-             refused [{}], bytes of output {}; merges {}; {}; {}",
+             refused [{}], bytes of output {}; {}; {}",
             self.files,
             self.longest,
             self.returned.iter().sum::<u64>(),
             self.returned[0],
             refused.join(", "),
             self.bytes,
-            self.merges,
             self.folds.each_ref().map(Folds::line).join("; "),
             self.measures.line(),
         )

@@ -8,8 +8,6 @@ use reference::generate::case::Case;
 use reference::generate::damage::damaged_case;
 use reference::generate::exhaustive::{passed_files, small_files};
 use reference::generate::facts::facts;
-use reference::generate::merges::merges;
-use reference::generate::merges::small::merge_files;
 use reference::generate::nests::nests;
 use reference::generate::random_file::random_file;
 use reference::generate::worked_out;
@@ -23,12 +21,10 @@ const EACH_FILE: &str = "number, length, folds, runs and every byte of the outpu
                          and 64 bytes on either side of it, in the room that row 11 wants or the \
                          case has, a byte less and more; of one file in 16 no room and 65536 bytes \
                          too; once for each file the number, length and looks that are measured; \
-                         then each result of the fold and of the base fold again until all stay";
+                         then each result again until one stays";
 
 /// Trees of a long file have up to so many nodes.
 const LONG: usize = 2500;
-/// From so many nodes on a file counts as large.
-const LARGE: usize = 2900;
 
 /// Prints what was compared. An error if anything differs.
 pub fn compare_all(amount: Amount) -> Result<(), String> {
@@ -42,7 +38,7 @@ pub fn compare_all(amount: Amount) -> Result<(), String> {
         println!("{what}: {} ({:.1?})", compared.line(), start.elapsed());
         all.add(&compared);
     };
-    part("deep nests and large merges, on a stack of 2 MB", Some(2 << 20), &deep_nests);
+    part("deep nests, on a stack of 2 MB", Some(2 << 20), &deep_nests);
     let mut family = |what: &str, run: &dyn Fn(&mut Compared)| part(what, None, run);
     family("hand-made files", &hand_made);
     family("lengths", &|compared| lengths(&mut |case| compared.case(&case)));
@@ -51,11 +47,6 @@ pub fn compare_all(amount: Amount) -> Result<(), String> {
         changed_bytes(&mut |case| each(&mut || compared.case(&case)));
     });
     family("small trees", &|compared| small_trees(compared, amount.small));
-    family("small merges", &|compared| {
-        merge_files(amount.merged_parts, &mut |file| {
-            compared.case(&Case::of_records("a small merge", &file));
-        });
-    });
     family("passed trees", &|compared| passed_trees(compared, amount.passed));
     family("facts", &|compared| {
         let mut each = one_in(amount.facts);
@@ -90,11 +81,8 @@ fn hand_made(compared: &mut Compared) {
     worked_out().for_each(|case| compared.case(&case));
 }
 
-/// The nests, and the merges with as many nodes as can be, some of them as deep.
 fn deep_nests(compared: &mut Compared) {
     nests().iter().for_each(|(what, file)| compared.case(&Case::of_records(what, file)));
-    let large = merges().into_iter().filter(|it| it.file.nodes.len() >= LARGE);
-    large.for_each(|it| compared.case(&it.case()));
 }
 
 fn small_trees(compared: &mut Compared, table: Table) {

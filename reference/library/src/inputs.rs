@@ -4,7 +4,6 @@ use reference::build::{Line, Tree, declared_name, file_of};
 use reference::fold::fold;
 use reference::generate::case::Case;
 use reference::generate::limits::limits;
-use reference::generate::merges::editor_scripts;
 use reference::generate::nests::nests;
 use reference::generate::random_file::random_file;
 use reference::generate::refusals::refusals;
@@ -24,10 +23,8 @@ fn class(what: impl Into<String>, cases: Vec<Case>) -> Class {
 /// Scripts as a bench has them.
 fn typical() -> Vec<Class> {
     let of_scripts = scripts().iter().map(|it| Case::of_records(it.text, &it.file)).collect();
-    let of_editor = editor_scripts().iter().map(|it| it.case()).collect();
     vec![
         class("the twelve scripts", of_scripts),
-        class("scripts of the older editor", of_editor),
         class("random, 10 to 99 nodes", random_of(24, 10..100, 300)),
         class("random, 100 to 499 nodes", random_of(200, 100..500, 100)),
     ]

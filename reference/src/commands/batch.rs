@@ -10,8 +10,6 @@ use crate::generate::exhaustive::{passed_files, small_files};
 use crate::generate::facts::facts;
 use crate::generate::limits::limits;
 use crate::generate::looks::looked;
-use crate::generate::merges::merges;
-use crate::generate::merges::small::merge_files;
 use crate::generate::nests::nests;
 use crate::generate::random_file::random_file;
 use crate::generate::refusals::refusals;
@@ -21,8 +19,8 @@ use crate::generate::shapes::shapes;
 
 /// The names of the families, with their numbers.
 pub const FAMILIES: &str = "random SEED FIRST COUNT SIZE | damaged SEED FIRST COUNT SIZE | \
-                            small NODES | passed NODES | small-merges PARTS | facts | rules | \
-                            shapes | runs | looks | merges | nests | limits | refusals | lengths | bytes";
+                            small NODES | passed NODES | facts | rules | shapes | runs | looks | \
+                            nests | limits | refusals | lengths | bytes";
 
 /// Writes the entries of a family to the output.
 pub fn batch(family: &str, numbers: &[u64], out: &mut dyn Write) -> Result<(), String> {
@@ -49,10 +47,6 @@ fn each_case(family: &str, numbers: &[u64], put: &mut dyn FnMut(Case)) -> Result
         ("passed", &[nodes]) => {
             passed_files(size(nodes), &mut |_, file| put(Case::of_records("passed", &file)));
         }
-        ("small-merges", &[parts]) => {
-            let parts = u32::try_from(parts).expect("small");
-            merge_files(parts, &mut |file| put(Case::of_records("a small merge", &file)));
-        }
         ("nests", []) => {
             nests().iter().for_each(|(what, file)| put(Case::of_records(what, file)));
         }
@@ -61,7 +55,6 @@ fn each_case(family: &str, numbers: &[u64], put: &mut dyn FnMut(Case)) -> Result
         ("shapes", []) => shapes().iter().for_each(|shape| put(shape.case())),
         ("runs", []) => run_cases().for_each(put),
         ("looks", []) => looked().iter().for_each(|it| put(it.case())),
-        ("merges", []) => merges().iter().for_each(|it| put(it.case())),
         ("limits", []) => limits().into_iter().for_each(put),
         ("refusals", []) => refusals().into_iter().for_each(put),
         ("lengths", []) => lengths(put),

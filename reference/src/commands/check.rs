@@ -5,11 +5,11 @@ use std::fs;
 use std::path::Path;
 use std::time::Instant;
 
-use super::write::{MERGE, STEADY, paths_of, script_paths};
+use super::write::{STEADY, paths_of, script_paths};
 use crate::answer_list::lists;
 use crate::answers::{entries, replay};
 use crate::checks::{Finding, Totals, check_file};
-use crate::fold::{Answer, fold};
+use crate::fold::fold;
 use crate::foldlist::foldlist;
 use crate::generate::case::Case;
 use crate::generate::damage::damaged_case;
@@ -17,8 +17,6 @@ use crate::generate::exhaustive::{Emit, passed_files, small_files};
 use crate::generate::facts::facts;
 use crate::generate::limits::limits;
 use crate::generate::looks::looked;
-use crate::generate::merges::small::merge_files;
-use crate::generate::merges::{Merge, merges};
 use crate::generate::nests::nests;
 use crate::generate::random_file::random_file;
 use crate::generate::refusals::refusals;
@@ -28,7 +26,6 @@ use crate::generate::shapes::{Shape, shapes};
 use crate::generate::worked_out;
 use crate::measure::{Measured, measure};
 use crate::origin::as_compared;
-use crate::record::RecordFile;
 use crate::scripts::{Script, scripts};
 use crate::steady::{Steady, fold_until_steady};
 
@@ -39,27 +36,13 @@ pub struct Amount {
     pub damaged: u64,
     pub small_nodes: usize,
     pub passed_nodes: usize,
-    /// Parts of the rows behind small declarations.
-    pub merged_parts: u32,
     pub seed: u64,
 }
 
-pub const FULL: Amount = Amount {
-    random: 1_200_000,
-    damaged: 400_000,
-    small_nodes: 4,
-    passed_nodes: 3,
-    merged_parts: 3,
-    seed: 1,
-};
-pub const SHORT: Amount = Amount {
-    random: 60_000,
-    damaged: 40_000,
-    small_nodes: 3,
-    passed_nodes: 2,
-    merged_parts: 2,
-    seed: 1,
-};
+pub const FULL: Amount =
+    Amount { random: 1_200_000, damaged: 400_000, small_nodes: 4, passed_nodes: 3, seed: 1 };
+pub const SHORT: Amount =
+    Amount { random: 60_000, damaged: 40_000, small_nodes: 3, passed_nodes: 2, seed: 1 };
 
 /// Prints what was compared. The number of differences.
 pub fn check_all(directory: &Path, amount: Amount) -> usize {
@@ -71,7 +54,6 @@ pub fn check_all(directory: &Path, amount: Amount) -> usize {
     report.part("shapes", check_shapes);
     report.part("runs", || check_runs(directory));
     report.part("looks", check_looks);
-    report.part("merges", || check_merges(directory));
     report.part("kept answers", || check_answers(directory));
     check_generated(&mut report, amount);
     report.differences
@@ -183,20 +165,10 @@ fn check_runs(directory: &Path) -> Result<String, String> {
         check_run(repeat).map_err(|what| format!("`{}`: {what}", repeat.text))?;
     }
     let first = &repeats[0];
-    check_kept(directory, STEADY, first.text, [&first.file, &first.result])?;
+    let (file, result) = paths_of(directory, STEADY);
+    let kept = read(&file)? == first.file.to_bytes() && read(&result)? == first.result.to_bytes();
+    demand(kept, || format!("the kept files aren't `{}` and its result", first.text))?;
     Ok(format!("{} files had the runs, folds and results worked out by hand", repeats.len()))
-}
-
-/// A file and its result are those that are kept.
-fn check_kept(
-    directory: &Path,
-    name: &str,
-    text: &str,
-    files: [&RecordFile; 2],
-) -> Result<(), String> {
-    let (file, result) = paths_of(directory, name);
-    let kept = [read(&file)?, read(&result)?] == files.map(RecordFile::to_bytes);
-    demand(kept, || format!("the kept files aren't `{text}` and its result"))
 }
 
 fn check_run(repeat: &Repeat) -> Result<(), String> {
@@ -225,29 +197,6 @@ fn check_looks() -> Result<String, String> {
     Ok(format!("{} files had the looks worked out by hand", files.len()))
 }
 
-/// The files with merges, whose results were worked out by hand.
-fn check_merges(directory: &Path) -> Result<String, String> {
-    let files = merges();
-    for it in &files {
-        check_merge(it).map_err(|what| format!("`{}`: {what}", it.text))?;
-    }
-    let first = &files[0];
-    check_kept(directory, MERGE, &first.text, [&first.file, &first.result])?;
-    Ok(format!("{} files had the results worked out by hand, folded twice", files.len()))
-}
-
-fn check_merge(it: &Merge) -> Result<(), String> {
-    let case = it.case();
-    let answer = fold(&case.file, case.room);
-    let Answer { number, folds, .. } = answer;
-    demand((number, folds) == (0, it.folds), || format!("returned {number}, {folds} folds"))?;
-    let right = answer.result == it.result.to_bytes();
-    demand(right, || format!("doesn't give `{}`", it.result_text))?;
-    let again = fold(&answer.result, case.room);
-    let right = again.number == 0 && again.result == it.again.to_bytes();
-    demand(right, || "a second fold gives something else".into())
-}
-
 /// The kept lists are those that are made anew, and they read back.
 fn check_answers(directory: &Path) -> Result<String, String> {
     let mut said = Vec::new();
@@ -267,12 +216,10 @@ fn check_answers(directory: &Path) -> Result<String, String> {
 /// What `check_file` asks.
 const EACH_FILE: &str = "refused with nothing returned; or read and written back unchanged, folded \
                          with facts, scopes, frames and options copied, a result of at most \
-                         length + 8 D bytes, as many folds as names are gone, the base fold's \
-                         result if nothing is merged, a target less for each merged name, every \
-                         result accepted again in the same room; at most D + 2 runs of the base \
-                         fold and D folds until steady, no merge, the last result folded to itself; \
-                         measured as folded in enough room, whatever the room is, with at most \
-                         (T + 2 D) 3000 looks";
+                         length + 8 D bytes and at most D folds, every result accepted again in \
+                         the same room, at most D + 2 runs and D folds until steady, the last \
+                         result folded to itself; measured as folded in enough room, whatever the \
+                         room is, with at most (T + 2 D) 3000 looks";
 
 /// Files that are made now, family by family.
 fn check_generated(report: &mut Report, amount: Amount) {
@@ -292,9 +239,6 @@ fn check_generated(report: &mut Report, amount: Amount) {
     });
     family("small trees", &|family| {
         family.check_each(|emit| small_files(amount.small_nodes, emit))
-    });
-    family("small merges", &|family| {
-        merge_files(amount.merged_parts, &mut |file| family.check(&Case::of_records("", &file)));
     });
     family("passed trees", &|family| {
         family.check_each(|emit| passed_files(amount.passed_nodes, emit));

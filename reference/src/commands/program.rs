@@ -9,7 +9,6 @@ use std::time::Instant;
 use crate::foldlist::foldlist;
 use crate::generate::case::Case;
 use crate::generate::limits::limits;
-use crate::generate::merges::{Merge, merges};
 use crate::generate::refusals::refusals;
 use crate::generate::rules::{Rule, rules};
 use crate::scripts::{Script, scripts};
@@ -55,7 +54,6 @@ fn cases() -> Vec<Case> {
     cases.extend(refusals());
     cases.extend(limits());
     cases.extend(rules().iter().map(Rule::case));
-    cases.extend(merges().iter().map(Merge::case));
     cases.push(Case::new("empty input", Vec::new()).expecting(1));
     cases.extend(long_inputs());
     cases

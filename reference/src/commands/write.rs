@@ -5,15 +5,12 @@ use std::path::{Path, PathBuf};
 
 use crate::answer_list::lists;
 use crate::answers::entries;
-use crate::generate::merges::merges;
 use crate::generate::runs::repeats;
 use crate::record::RecordFile;
 use crate::scripts::{Script, scripts};
 
 /// The name of the kept file of the repeat, which is the family's first.
 pub const STEADY: &str = "steady";
-/// The name of the kept file with a merge, which is that family's first.
-pub const MERGE: &str = "merge";
 
 /// The kept file of this name and that of its result.
 pub fn paths_of(directory: &Path, name: &str) -> (PathBuf, PathBuf) {
@@ -32,8 +29,6 @@ pub fn write_all(directory: &Path) -> Result<(), String> {
     }
     let steady = &repeats()[0];
     put_both(&paths_of(directory, STEADY), &steady.file, &steady.result)?;
-    let merge = &merges()[0];
-    put_both(&paths_of(directory, MERGE), &merge.file, &merge.result)?;
     for list in lists() {
         let bytes = entries(&list.cases);
         for path in list.paths {

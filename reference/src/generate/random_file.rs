@@ -1,6 +1,5 @@
-//! Random files in which folds are frequent, and in some merges. Most are accepted.
+//! Random files in which folds are frequent. Most are accepted.
 
-mod assigning;
 mod facts;
 mod lines;
 mod trees;
@@ -17,18 +16,12 @@ struct Mood {
     calm: bool,
     /// How many of a hundred nodes are marked.
     marks: usize,
-    /// Declarations leave names bare, and the lines behind them assign to these.
-    assigning: bool,
 }
 
 /// A file that depends on the seed and the case's number alone, with trees of up to so many nodes.
 pub fn random_file(seed: u64, case: u64, size: usize) -> RecordFile {
     let mut random = Random::new(seed, case);
-    let mood = Mood {
-        calm: random.percent(35),
-        marks: random.pick(&[4, 12, 25, 40]),
-        assigning: random.percent(40),
-    };
+    let mood = Mood { calm: random.percent(35), marks: random.pick(&[4, 12, 25, 40]) };
     let mut file = empty_file(Vec::new());
     facts::choose_scopes(&mut random, &mut file);
     let declared = random.between(1, 8);

@@ -1,5 +1,4 @@
 -- `statements_fold::fold` meets its contract. Assumes nothing.
-use mathlib.Core.Bool.{true}
 use mathlib.Core.Path.{sym, ◌∙◌, subst}
 use native.Mathlib.Omega.{arith}
 use lib.ListN.{length}
@@ -22,7 +21,7 @@ returns c =
     let f = c.before.before.before.before.before.args.file.now in
     let n = length c.before.before.before.before.before.args.output.now in
     let e = c.before.number_of_lem.ensures in
-    with_acceptance true f n (returns_refused true f n c.before.number_of_lem.result c.before.before.before.before.before.args.output.now (e ∙ header_refuses f _ c.before.before.header-refusal.ensures (omega (arith, e, c.if1.true)) n) c.if1.true)
+    with_acceptance f n (returns_refused f n c.before.number_of_lem.result c.before.before.before.before.before.args.output.now (e ∙ header_refuses f _ c.before.before.header-refusal.ensures (omega (arith, e, c.if1.true)) n) c.if1.true)
 
 header-of-requires : tie.Need-header-of-requires
 header-of-requires c κs = long-enough c.before.before.before.before.before.args.file.now (header_passes c.before.before.before.before.before.args.file.now _ c.before.before.header-refusal.ensures (omega (arith, c.if1.false, c.before.number_of_lem.ensures))).script
@@ -43,13 +42,13 @@ same_length : tie.Need-same-length
 same_length c = search rules
 
 returns-2 : tie.Need-returns-2
-returns-2 c = with_acceptance true c.before.before.before.before.before.before.before.before.before.before.before.before.before.before.before.before.args.file.now (length c.before.before.before.before.before.before.before.before.before.before.before.before.before.before.before.before.args.output.now) (written-refused true c.before.before.before.before.before.before.before.before.before.before.before.before.before.before.before.before.args.file.now c.before.before.before.before.before.before.before.before.before.before.before.before.before.before.before.before.args.output.now c.before.before.before.before.before.before.fold-records.ensures c.if2.true)
+returns-2 c = with_acceptance c.before.before.before.before.before.before.before.before.before.before.before.before.before.before.before.before.args.file.now (length c.before.before.before.before.before.before.before.before.before.before.before.before.before.before.before.before.args.output.now) (written-refused c.before.before.before.before.before.before.before.before.before.before.before.before.before.before.before.before.args.file.now c.before.before.before.before.before.before.before.before.before.before.before.before.before.before.before.before.args.output.now c.before.before.before.before.before.before.fold-records.ensures c.if2.true)
 
 same-length-2 : tie.Need-same-length-2
 same-length-2 c = search rules
 
 returns-3 : tie.Need-returns-3
-returns-3 c = with_acceptance true c.before.before.before.before.before.before.before.before.before.before.before.before.before.before.before.before.args.file.now (length c.before.before.before.before.before.before.before.before.before.before.before.before.before.before.before.before.args.output.now) (written-folded true c.before.before.before.before.before.before.before.before.before.before.before.before.before.before.before.before.args.file.now c.before.before.before.before.before.before.before.before.before.before.before.before.before.before.before.before.args.output.now c.before.before.before.before.before.before.fold-records.ensures (omega (arith, c.if2.false)))
+returns-3 c = with_acceptance c.before.before.before.before.before.before.before.before.before.before.before.before.before.before.before.before.args.file.now (length c.before.before.before.before.before.before.before.before.before.before.before.before.before.before.before.before.args.output.now) (written-folded c.before.before.before.before.before.before.before.before.before.before.before.before.before.before.before.before.args.file.now c.before.before.before.before.before.before.before.before.before.before.before.before.before.before.before.before.args.output.now c.before.before.before.before.before.before.fold-records.ensures (omega (arith, c.if2.false)))
 
 pub fold-spec : {M : Type 1} → statement M
 fold-spec =

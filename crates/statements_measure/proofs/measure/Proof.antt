@@ -9,7 +9,7 @@ use Rattle.records_refusal.specs.Passing.{HeaderPasses}
 use Rattle.records_refusal.proofs.Limits.{long-enough, length_said}
 use Rattle.records_refusal.proofs.Header.{header_passes, header_refuses}
 use Rattle.statements_fold.proofs.Returning.{header_limits}
-use Rattle.statements_measure.proofs.Returning.{with-laws, returns_refused, outcome-refused, outcome-measured}
+use Rattle.statements_measure.proofs.Returning.{with_laws, returns_refused, outcome-refused, outcome-measured}
 use borrow.Author.Rules.{rules}
 use Rattle.statements_measure.proofs.measure.Statement.{statement}
 use Rattle.statements_measure.proofs.measure.Tie as tie
@@ -24,7 +24,7 @@ returns : tie.Need-returns
 returns c =
     let f = c.before.before.before.before.args.file.now in
     let e = c.before.number_of_lem.ensures in
-    with-laws f (returns_refused f c.before.number_of_lem.result (e ∙ header_refuses f _ c.before.before.header-refusal.ensures (omega (arith, e, c.if1.true)) (room_wanted f)) c.if1.true)
+    with_laws f (returns_refused f c.before.number_of_lem.result (e ∙ header_refuses f _ c.before.before.header-refusal.ensures (omega (arith, e, c.if1.true)) (room_wanted f)) c.if1.true)
 
 header-of-requires : tie.Need-header-of-requires
 header-of-requires c κs =
@@ -60,14 +60,14 @@ returns-2 c =
     let a = c.before.before.before.before.before in
     let r = a.before.before.before.before.room-wanted in
     let f = a.before.before.before.before.before.before.before.before.before.before.args.file.now in
-    with-laws f (outcome-refused f r.result r.ensures a.fold-records.ensures c.if2.true)
+    with_laws f (outcome-refused f r.result r.ensures a.fold-records.ensures c.if2.true)
 
 returns-3 : tie.Need-returns-3
 returns-3 c =
     let a = c.before.before.before.before.before in
     let r = a.before.before.before.before.room-wanted in
     let f = a.before.before.before.before.before.before.before.before.before.before.args.file.now in
-    with-laws f (outcome-measured f r.result r.ensures a.fold-records.ensures (omega (arith, c.if2.false)))
+    with_laws f (outcome-measured f r.result r.ensures a.fold-records.ensures (omega (arith, c.if2.false)))
 
 pub measure-spec : {M : Type 1} → statement M
 measure-spec =

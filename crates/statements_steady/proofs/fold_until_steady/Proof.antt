@@ -7,7 +7,7 @@ use Rattle.records.specs.File.{file_length}
 use Rattle.records.specs.declared.layout.Header.{Header}
 use Rattle.records_refusal.proofs.Limits.{long-enough, length_said}
 use Rattle.records_refusal.proofs.Header.{header_passes, header_refuses}
-use Rattle.statements_steady.proofs.Returning.{all-refused, with-laws}
+use Rattle.statements_steady.proofs.Returning.{all-refused, with_laws}
 use borrow.Author.Rules.{rules}
 use Rattle.statements_steady.proofs.fold_until_steady.Statement.{statement}
 use Rattle.statements_steady.proofs.fold_until_steady.Tie as tie
@@ -23,7 +23,7 @@ returns c =
     let f = c.before.before.before.before.before.args.file.now in
     let n = length c.before.before.before.before.before.args.output.now in
     let e = c.before.number_of_lem.ensures in
-    with-laws f n (all-refused f n c.before.before.before.before.before.args.output.now c.before.number_of_lem.result (e ∙ header_refuses f _ c.before.before.header-refusal.ensures (omega (arith, e, c.if1.true)) n) c.if1.true)
+    with_laws f n (all-refused f n c.before.before.before.before.before.args.output.now c.before.number_of_lem.result (e ∙ header_refuses f _ c.before.before.header-refusal.ensures (omega (arith, e, c.if1.true)) n) c.if1.true)
 
 header-of-requires : tie.Need-header-of-requires
 header-of-requires c κs =
@@ -43,7 +43,7 @@ same_length : tie.Need-same-length
 same_length c = search rules
 
 returns-2 : tie.Need-returns-2
-returns-2 c = with-laws c.before.before.before.before.before.before.before.before.before.before.before.before.args.file.now (length c.before.before.before.before.before.before.before.before.before.before.before.before.args.output.now) c.before.before.repeat-large.ensures
+returns-2 c = with_laws c.before.before.before.before.before.before.before.before.before.before.before.before.args.file.now (length c.before.before.before.before.before.before.before.before.before.before.before.before.args.output.now) c.before.before.repeat-large.ensures
 
 repeat-small-requires : tie.Need-repeat-small-requires
 repeat-small-requires c κs =
@@ -54,7 +54,7 @@ same-length-2 : tie.Need-same-length-2
 same-length-2 c = search rules
 
 returns-3 : tie.Need-returns-3
-returns-3 c = with-laws c.before.before.before.before.before.before.before.before.before.before.before.before.args.file.now (length c.before.before.before.before.before.before.before.before.before.before.before.before.args.output.now) c.before.before.repeat-small.ensures
+returns-3 c = with_laws c.before.before.before.before.before.before.before.before.before.before.before.before.args.file.now (length c.before.before.before.before.before.before.before.before.before.before.before.before.args.output.now) c.before.before.repeat-small.ensures
 
 pub fold-until-steady-spec : {M : Type 1} → statement M
 fold-until-steady-spec =

@@ -14,9 +14,7 @@ pub struct Writer<'r> {
     /// Names that are declared and not used yet.
     pub unused: Vec<u16>,
     /// Names that are still to be declared, the next one last.
-    pub to_declare: Vec<u16>,
-    /// Names that the last declaration leaves bare, where the lines behind it assign to them.
-    pub bare: Vec<u16>,
+    to_declare: Vec<u16>,
     /// How many names there are to declare; the others follow them.
     pub declared: usize,
     pub position: u32,
@@ -35,7 +33,6 @@ impl<'r> Writer<'r> {
             unresolved: names.iter().map(Name::is_unresolved).collect(),
             unused: Vec::new(),
             to_declare: (0..count).rev().collect(),
-            bare: Vec::new(),
             declared,
             position,
         }
@@ -54,9 +51,6 @@ impl<'r> Writer<'r> {
     }
 
     fn line(&mut self, budget: usize) -> Line {
-        if !self.bare.is_empty() && self.random.percent(85) {
-            return self.line_behind_bare(budget);
-        }
         let choice = self.random.below(100);
         if choice < 65 && !self.to_declare.is_empty() {
             self.declaration()
@@ -64,43 +58,34 @@ impl<'r> Writer<'r> {
             let nodes = self.random.between(1, budget);
             Line::Expression(self.expression(nodes))
         } else if choice < 98 {
-            self.empty_declaration()
+            let kind = self.random.pick(DECLARATIONS);
+            Line::Declaration { kind, declarators: Vec::new() }
         } else {
             Line::Other
         }
     }
 
-    pub fn empty_declaration(&mut self) -> Line {
-        let kind = self.random.pick(DECLARATIONS);
-        Line::Declaration { kind, declarators: Vec::new() }
-    }
-
     fn declaration(&mut self) -> Line {
-        let kind = self.kind_of_declaration();
+        let kind = self.random.pick(DECLARATIONS);
         let count = self.random.pick(&[1, 1, 1, 2, 2, 3, 4]);
         let declarators = (0..count).filter_map(|_| self.declarator()).collect();
-        self.declared(kind, declarators)
+        Line::Declaration { kind, declarators }
     }
 
-    pub fn declarator(&mut self) -> Option<(u16, Option<Tree>)> {
+    fn declarator(&mut self) -> Option<(u16, Option<Tree>)> {
         let name = self.to_declare.pop()?;
         let nodes = self.random.pick(&[1, 1, 1, 2, 2, 3, 4, 6]);
-        let given = if self.mood.assigning { 35 } else { 95 };
-        let init = if self.random.percent(given) { Some(self.expression(nodes)) } else { None };
-        Some((self.name_or_pattern(name), init))
-    }
-
-    pub fn name_or_pattern(&mut self, name: u16) -> u16 {
+        let init = if self.random.percent(95) { Some(self.expression(nodes)) } else { None };
         if self.random.percent(4) {
-            return NONE;
+            return Some((NONE, init));
         }
         self.unused.push(name);
-        name
+        Some((name, init))
     }
 }
 
 /// The kinds of declaration, the frequent ones more than once.
-pub const DECLARATIONS: &[u8] = &[
+const DECLARATIONS: &[u8] = &[
     statement::VAR,
     statement::VAR,
     statement::VAR,

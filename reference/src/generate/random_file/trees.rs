@@ -5,7 +5,7 @@ use crate::build::Tree;
 use crate::record::*;
 
 impl Writer<'_> {
-    pub fn step(&mut self) -> u32 {
+    fn step(&mut self) -> u32 {
         self.position += self.random.u32_below(9) + 1;
         self.position
     }

@@ -7,7 +7,7 @@ use borrow.Author.Rules.{rules}
 use lib.ListN.{length-set}
 use borrow.Author.Tests.{not-true, not-false}
 use Rattle.records.specs.Node.{fewest, most}
-use Rattle.records_refusal.proofs.Scans.{Going, scanned_none, scanned_more, reads-few, targets-few, ends_bad, ends-untaken, ends_good, ends-unchained, kind-low, parent_unnamed, compound-kind, found, behind, taken-nodes, taken-trees, taken-all}
+use Rattle.records_refusal.proofs.Scans.{Going, scanned_none, scanned_more, reads-few, targets-few, ends_bad, ends_untaken, ends_good, ends-unchained, kind-low, parent_unnamed, compound-kind, found, behind, taken-nodes, taken-trees, taken-all}
 use Rattle.records_refusal.proofs.scan.scan_trees.Statement.{statement}
 use Rattle.records_refusal.proofs.scan.scan_trees.Tie as tie
 use Rattle.records_refusal.proofs.scan.scan_trees.Reads as reads
@@ -56,7 +56,7 @@ same-length-3 : tie.Need-same-length-3 invariant-loop decreases-loop
 same-length-3 c = c.before.before.before.before.before.before.loop.invariant.aimed
 
 returns : tie.Need-returns invariant-loop decreases-loop
-returns c = (ends_bad c.before.before.before.before.before.before.loop.invariant.scan c.before.before.before.before.node_at.result (c.before.before.before.before.before.before.loop.left - 1) (omega (arith, c.before.before.before.before.before.loop-test.true)) c.before.before.before.before.node_at.ensures (sym c.before.node-is-good.ensures ∙ not-true _ c.if1.true), (ends-untaken c.before.before.before.before.before.before.loop.invariant.scan c.before.before.before.before.node_at.result (c.before.before.before.before.before.before.loop.left - 1) (omega (arith, c.before.before.before.before.before.loop-test.true)) c.before.before.before.before.node_at.ensures (sym c.before.node-is-good.ensures ∙ not-true _ c.if1.true), (λ e. absurd (false≢true e), ((omega (arith, c.before.before.before.before.before.loop-test.true, c.before.before.before.before.before.before.loop.invariant.scan.counted.within), λ s. omega (arith, c.before.before.before.before.before.loop-test.true, c.before.before.before.before.before.before.loop.invariant.scan.counted.within)), (omega (arith, c.before.before.before.before.before.before.loop.invariant.scan.grown.inside, c.before.before.before.before.before.before.loop.invariant.stacked), ((λ k. omega (arith, reads-few c.before.before.before.before.before.before.loop.invariant.scan c.before.before.before.before.before.before.before.before.before.before.before.before.requires.1.1.1.1.0 k)), (λ k. omega (arith, targets-few c.before.before.before.before.before.before.loop.invariant.scan c.before.before.before.before.before.before.before.before.before.before.before.before.requires.1.1.1.1.1 k))))))))
+returns c = (ends_bad c.before.before.before.before.before.before.loop.invariant.scan c.before.before.before.before.node_at.result (c.before.before.before.before.before.before.loop.left - 1) (omega (arith, c.before.before.before.before.before.loop-test.true)) c.before.before.before.before.node_at.ensures (sym c.before.node-is-good.ensures ∙ not-true _ c.if1.true), (ends_untaken c.before.before.before.before.before.before.loop.invariant.scan c.before.before.before.before.node_at.result (c.before.before.before.before.before.before.loop.left - 1) (omega (arith, c.before.before.before.before.before.loop-test.true)) c.before.before.before.before.node_at.ensures (sym c.before.node-is-good.ensures ∙ not-true _ c.if1.true), (λ e. absurd (false≢true e), ((omega (arith, c.before.before.before.before.before.loop-test.true, c.before.before.before.before.before.before.loop.invariant.scan.counted.within), λ s. omega (arith, c.before.before.before.before.before.loop-test.true, c.before.before.before.before.before.before.loop.invariant.scan.counted.within)), (omega (arith, c.before.before.before.before.before.before.loop.invariant.scan.grown.inside, c.before.before.before.before.before.before.loop.invariant.stacked), ((λ k. omega (arith, reads-few c.before.before.before.before.before.before.loop.invariant.scan c.before.before.before.before.before.before.before.before.before.before.before.before.requires.1.1.1.1.0 k)), (λ k. omega (arith, targets-few c.before.before.before.before.before.before.loop.invariant.scan c.before.before.before.before.before.before.before.before.before.before.before.before.requires.1.1.1.1.1 k))))))))
 
 slice-aggregate-node-stands : tie.Need-slice-aggregate-node-stands invariant-loop decreases-loop
 slice-aggregate-node-stands c = search rules

@@ -3,28 +3,21 @@ use mathlib.Core.List.{List}
 use mathlib.Core.Path.{◌≡◌, refl, ap, ◌∙◌}
 use Prim.Native.Nat.{ℕ, ◌+◌, ◌-◌, ◌*◌}
 use native.Mathlib.Omega.{arith}
-use lib.ListN.{length, get_or}
+use lib.ListN.{length, get_or, length-set}
 use Rattle.records.specs.Bytes.{Bytes}
 use Rattle.records.specs.Record.{statement_at}
-use Rattle.statements.proofs.Sequence.{SomeOrdered, ordered_begins, ordered_inside, can_fold, room-on, ordered_next, ordered_ends}
+use Rattle.statements.proofs.Sequence.{SomeOrdered, ordered_begins, ordered_inside, can_fold, ordered_on, ordered_ends}
 use Rattle.statements.proofs.in_order.fold_statements.Statement.{statement}
 use Rattle.statements.proofs.in_order.fold_statements.Tie as tie
-use Rattle.statements.proofs.in_order.fold_statements.Reads as reads
-use Rattle.statements.proofs.in_order.fold_statements.Lts as lts
-use Rattle.records.proofs.layout.statement_at.Reads as statement-at-reads
-use Rattle.records.proofs.number.size.Reads as size-reads
-use Rattle.records.proofs.parts.part_offsets.Reads as part-offsets-reads
-use Rattle.statements.proofs.in_order.list_number.Reads as list-number-reads
-use Rattle.statements.proofs.statement.fold_statement.Reads as fold-statement-reads
 
 abbrev invariant-loop : tie.invariant-loop
-invariant-loop file h nodes₀ declarators₀ starts₀ statements₀ folded₀ kept₀ merging from count p₀ i₀ nodes declarators starts statements folded kept p i =
+invariant-loop file h nodes₀ declarators₀ starts₀ statements₀ folded₀ kept₀ from count p₀ i₀ nodes declarators starts statements folded kept p i =
     (length nodes ≡ length nodes₀) × (length declarators ≡ length declarators₀) × (length starts ≡ length starts₀) × (length statements ≡ length statements₀)
     × (length folded ≡ length folded₀) × (length kept ≡ length kept₀)
-    × Bytes declarators × Bytes statements × SomeOrdered merging file h nodes declarators starts statements folded₀ folded kept p i count
+    × Bytes declarators × Bytes statements × SomeOrdered file h nodes declarators starts statements folded₀ folded kept p i count
 
 abbrev decreases-loop : tie.decreases-loop
-decreases-loop file h nodes₀ declarators₀ starts₀ statements₀ folded₀ kept₀ merging from count p₀ i₀ nodes declarators starts statements folded kept p i = count - i
+decreases-loop file h nodes₀ declarators₀ starts₀ statements₀ folded₀ kept₀ from count p₀ i₀ nodes declarators starts statements folded kept p i = count - i
 
 part-offsets-requires : tie.Need-part-offsets-requires invariant-loop decreases-loop
 part-offsets-requires c κs = tt
@@ -43,9 +36,9 @@ loop-holds c = (
   refl,
   refl,
   refl,
-  (λ i. omega (arith, c.before.before.before.before.before.before.slice-known2.given i)),
-  (λ i. omega (arith, c.before.before.before.before.slice-known4.given i)),
-  ordered_begins c.before.before.before.before.before.before.before.before.before.args.merging c.before.before.before.before.before.before.before.before.before.args.file.now c.before.before.before.before.before.before.before.before.before.args.h c.before.before.before.before.before.before.before.before.before.args.nodes.now c.before.before.before.before.before.before.before.before.before.args.declarators.now c.before.before.before.before.before.before.before.before.before.args.starts.now c.before.before.before.before.before.before.before.before.before.args.statements.now c.before.before.before.before.before.before.before.before.before.args.folded.now c.before.before.before.before.before.before.before.before.before.args.kept.now c.size.result c.before.before.before.before.before.before.before.before.before.requires.1.0 c.before.before.before.before.before.before.before.before.before.requires.0.0 c.size.ensures.0,
+  (λ i. omega (arith, (c.before.before.before.before.before.before.slice-known2).given i)),
+  (λ i. omega (arith, (c.before.before.before.before.slice-known4).given i)),
+  ordered_begins c.before.before.before.before.before.before.before.before.before.args.file.now c.before.before.before.before.before.before.before.before.before.args.h c.before.before.before.before.before.before.before.before.before.args.nodes.now c.before.before.before.before.before.before.before.before.before.args.declarators.now c.before.before.before.before.before.before.before.before.before.args.starts.now c.before.before.before.before.before.before.before.before.before.args.statements.now c.before.before.before.before.before.before.before.before.before.args.folded.now c.before.before.before.before.before.before.before.before.before.args.kept.now c.size.result c.before.before.before.before.before.before.before.before.before.requires.1.0 c.before.before.before.before.before.before.before.before.before.requires.0.0 c.size.ensures.0,
 )
 
 mul-statement-at : tie.Need-overflow-mul-statement-at invariant-loop decreases-loop
@@ -53,21 +46,36 @@ mul-statement-at c = omega arith
 
 add-statement-at : tie.Need-overflow-add-statement-at invariant-loop decreases-loop
 add-statement-at c =
-    let x = ordered_inside c.before.before.before.before.before.before.before.before.before.before.before.args.merging c.before.before.before.before.before.before.before.before.before.before.before.args.file.now c.before.before.before.before.before.before.before.before.before.before.before.args.h (omega arith) c.before.loop.invariant.8 in
+    let x = ordered_inside c.before.before.before.before.before.before.before.before.before.before.before.args.file.now c.before.before.before.before.before.before.before.before.before.before.before.args.h (omega arith) c.before.loop.invariant.8 in
     omega (arith, x, ap (λ (l : List ℕ). get_or l 5 0) c.before.before.before.part-offsets.ensures)
 
 statement-at-requires : tie.Need-statement-at-requires invariant-loop decreases-loop
 statement-at-requires c κs =
-    let x = ordered_inside c.before.before.before.before.before.before.before.before.before.before.before.args.merging c.before.before.before.before.before.before.before.before.before.before.before.args.file.now c.before.before.before.before.before.before.before.before.before.before.before.args.h (omega arith) c.before.loop.invariant.8 in
+    let x = ordered_inside c.before.before.before.before.before.before.before.before.before.before.before.args.file.now c.before.before.before.before.before.before.before.before.before.before.before.args.h (omega arith) c.before.loop.invariant.8 in
     omega (arith, x, ap (λ (l : List ℕ). get_or l 5 0) c.before.before.before.part-offsets.ensures)
 
 fold-statement-requires : tie.Need-fold-statement-requires invariant-loop decreases-loop
 fold-statement-requires c κs =
-    let x = can_fold c.before.before.before.before.before.before.before.before.before.before.before.before.before.before.before.before.before.args.merging c.before.before.before.before.before.before.before.before.before.before.before.before.before.before.before.before.before.args.file.now c.before.before.before.before.before.before.before.before.before.before.before.before.before.before.before.before.before.args.h (omega arith) c.before.before.before.before.before.statement-at.result (c.before.before.before.before.before.statement-at.ensures ∙ ap (λ (k : ℕ). statement_at c.before.before.before.before.before.before.before.before.before.before.before.before.before.before.before.before.before.args.file.now (k + 4 * c.before.before.before.before.before.before.before.loop.i)) (ap (λ (l : List ℕ). get_or l 5 0) c.before.before.before.before.before.before.before.before.before.part-offsets.ensures)) c.before.before.before.before.before.before.before.loop.invariant.8 in
+    let x = can_fold c.before.before.before.before.before.before.before.before.before.before.before.before.before.before.before.before.before.args.file.now c.before.before.before.before.before.before.before.before.before.before.before.before.before.before.before.before.before.args.h (omega arith) c.before.before.before.before.before.statement-at.result (c.before.before.before.before.before.statement-at.ensures ∙ ap (λ (k : ℕ). statement_at c.before.before.before.before.before.before.before.before.before.before.before.before.before.before.before.before.before.args.file.now (k + 4 * c.before.before.before.before.before.before.before.loop.i)) (ap (λ (l : List ℕ). get_or l 5 0) c.before.before.before.before.before.before.before.before.before.part-offsets.ensures)) c.before.before.before.before.before.before.before.loop.invariant.8 in
     (c.before.before.before.before.before.before.before.before.before.before.before.before.before.before.before.before.before.requires.0, ((omega (arith, c.before.before.before.before.before.before.before.before.before.before.before.before.before.before.before.before.before.requires.1.1.0), omega (arith, c.before.before.before.before.before.before.before.before.before.before.before.before.before.before.before.before.before.requires.1.1.0), omega (arith, c.before.before.before.before.before.before.before.before.before.before.before.before.before.before.before.before.before.requires.1.1.0), omega (arith, c.before.before.before.before.before.before.before.before.before.before.before.before.before.before.before.before.before.requires.1.1.0), omega (arith, c.before.before.before.before.before.before.before.before.before.before.before.before.before.before.before.before.before.requires.1.1.0)), x))
 
-list-number-requires : tie.Need-list-number-requires invariant-loop decreases-loop
-list-number-requires c κs = (λ k. room-on c.before.before.before.before.before.before.before.before.before.before.before.before.before.before.before.before.before.before.before.before.before.before.before.before.before.before.before.before.before.args.merging c.before.before.before.before.before.before.before.before.before.before.before.before.before.before.before.before.before.before.before.before.before.before.before.before.before.before.before.before.before.args.file.now c.before.before.before.before.before.before.before.before.before.before.before.before.before.before.before.before.before.before.before.before.before.before.before.before.before.before.before.before.before.args.h (omega arith) _ _ _ _ _ c.before.before.before.before.before.before.before.before.before.before.before.before.before.before.before.before.before.statement-at.result c.before.before.before.before.before.before.before.before.before.before.before.fold-statement.result.progress c.before.before.before.before.before.before.before.before.before.before.before.fold-statement.result.kept (c.before.before.before.before.before.before.before.before.before.before.before.before.before.before.before.before.before.statement-at.ensures ∙ ap (λ (k : ℕ). statement_at c.before.before.before.before.before.before.before.before.before.before.before.before.before.before.before.before.before.before.before.before.before.before.before.before.before.before.before.before.before.args.file.now (k + 4 * c.before.before.before.before.before.before.before.before.before.before.before.before.before.before.before.before.before.before.before.loop.i)) (ap (λ (l : List ℕ). get_or l 5 0) c.before.before.before.before.before.before.before.before.before.before.before.before.before.before.before.before.before.before.before.before.before.part-offsets.ensures)) c.before.before.before.before.before.before.before.before.before.before.before.fold-statement.ensures.0 c.before.before.before.before.before.before.before.before.before.before.before.fold-statement.ensures.1 (omega (arith, c.before.before.before.before.before.before.before.before.before.before.before.before.before.before.before.before.before.before.before.before.before.before.before.before.before.before.before.before.before.requires.1.1.1, c.before.before.before.before.before.before.before.before.before.before.before.before.before.before.before.before.before.before.before.loop.invariant.5)) k c.before.before.before.before.before.before.before.before.before.before.before.before.before.before.before.before.before.before.before.loop.invariant.8, omega (arith, c.before.before.before.before.before.before.before.before.before.before.before.before.before.before.before.before.before.before.before.before.size.ensures.1))
+sub-last : tie.Need-overflow-sub-last invariant-loop decreases-loop
+sub-last c =
+    let (some, few, on) = ordered_on c.before.before.before.before.before.before.before.before.before.before.before.before.before.before.before.before.before.before.before.before.before.before.before.before.before.before.before.before.before.args.file.now c.before.before.before.before.before.before.before.before.before.before.before.before.before.before.before.before.before.before.before.before.before.before.before.before.before.before.before.before.before.args.h (omega arith) _ _ _ _ _ c.before.before.before.before.before.before.before.before.before.before.before.before.before.before.before.before.before.statement-at.result c.before.before.before.before.before.before.before.before.before.before.before.fold-statement.result (c.before.before.before.before.before.before.before.before.before.before.before.before.before.before.before.before.before.statement-at.ensures ∙ ap (λ (k : ℕ). statement_at c.before.before.before.before.before.before.before.before.before.before.before.before.before.before.before.before.before.before.before.before.before.before.before.before.before.before.before.before.before.args.file.now (k + 4 * c.before.before.before.before.before.before.before.before.before.before.before.before.before.before.before.before.before.before.before.loop.i)) (ap (λ (l : List ℕ). get_or l 5 0) c.before.before.before.before.before.before.before.before.before.before.before.before.before.before.before.before.before.before.before.before.before.part-offsets.ensures)) c.before.before.before.before.before.before.before.before.before.before.before.fold-statement.ensures (omega (arith, c.before.before.before.before.before.before.before.before.before.before.before.before.before.before.before.before.before.before.before.before.before.before.before.before.before.before.before.before.before.requires.1.1.1, c.before.before.before.before.before.before.before.before.before.before.before.before.before.before.before.before.before.before.before.loop.invariant.5)) c.before.before.before.before.before.before.before.before.before.before.before.before.before.before.before.before.before.before.before.loop.invariant.8 in
+    omega (arith, some)
+
+cast-kept : tie.Need-overflow-cast-kept invariant-loop decreases-loop
+cast-kept c = omega (arith, c.before.before.before.before.before.before.before.before.before.before.before.before.before.before.before.before.before.before.before.before.size.ensures)
+
+mul-kept : tie.Need-overflow-mul-kept invariant-loop decreases-loop
+mul-kept c =
+    let (some, few, on) = ordered_on c.before.before.before.before.before.before.before.before.before.before.before.before.before.before.before.before.before.before.before.before.before.before.before.before.before.before.before.before.before.args.file.now c.before.before.before.before.before.before.before.before.before.before.before.before.before.before.before.before.before.before.before.before.before.before.before.before.before.before.before.before.before.args.h (omega arith) _ _ _ _ _ c.before.before.before.before.before.before.before.before.before.before.before.before.before.before.before.before.before.statement-at.result c.before.before.before.before.before.before.before.before.before.before.before.fold-statement.result (c.before.before.before.before.before.before.before.before.before.before.before.before.before.before.before.before.before.statement-at.ensures ∙ ap (λ (k : ℕ). statement_at c.before.before.before.before.before.before.before.before.before.before.before.before.before.before.before.before.before.before.before.before.before.before.before.before.before.before.before.before.before.args.file.now (k + 4 * c.before.before.before.before.before.before.before.before.before.before.before.before.before.before.before.before.before.before.before.loop.i)) (ap (λ (l : List ℕ). get_or l 5 0) c.before.before.before.before.before.before.before.before.before.before.before.before.before.before.before.before.before.before.before.before.before.part-offsets.ensures)) c.before.before.before.before.before.before.before.before.before.before.before.fold-statement.ensures (omega (arith, c.before.before.before.before.before.before.before.before.before.before.before.before.before.before.before.before.before.before.before.before.before.before.before.before.before.before.before.before.before.requires.1.1.1, c.before.before.before.before.before.before.before.before.before.before.before.before.before.before.before.before.before.before.before.loop.invariant.5)) c.before.before.before.before.before.before.before.before.before.before.before.before.before.before.before.before.before.before.before.loop.invariant.8 in
+    omega (arith, some, few, c.before.before.before.before.before.before.before.before.before.before.before.before.before.before.before.before.before.before.before.loop.invariant.5, c.before.before.before.before.before.before.before.before.before.before.before.before.before.before.before.before.before.before.loop-test.true, c.before.before.before.before.before.before.before.before.before.before.before.before.before.before.before.before.before.before.before.before.size.ensures, c.before.before.before.before.before.before.before.before.before.before.before.before.before.before.before.before.before.before.before.before.before.before.before.before.before.before.before.before.before.requires.1.1.1, c.before.before.before.before.before.before.before.before.before.before.before.before.before.before.before.before.before.before.before.before.before.before.before.before.before.before.before.before.before.well-formed)
+
+slice-write-kept : tie.Need-slice-write-kept invariant-loop decreases-loop
+slice-write-kept c =
+    let (some, few, on) = ordered_on c.before.before.before.before.before.before.before.before.before.before.before.before.before.before.before.before.before.before.before.before.before.before.before.before.before.before.before.before.before.args.file.now c.before.before.before.before.before.before.before.before.before.before.before.before.before.before.before.before.before.before.before.before.before.before.before.before.before.before.before.before.before.args.h (omega arith) _ _ _ _ _ c.before.before.before.before.before.before.before.before.before.before.before.before.before.before.before.before.before.statement-at.result c.before.before.before.before.before.before.before.before.before.before.before.fold-statement.result (c.before.before.before.before.before.before.before.before.before.before.before.before.before.before.before.before.before.statement-at.ensures ∙ ap (λ (k : ℕ). statement_at c.before.before.before.before.before.before.before.before.before.before.before.before.before.before.before.before.before.before.before.before.before.before.before.before.before.before.before.before.before.args.file.now (k + 4 * c.before.before.before.before.before.before.before.before.before.before.before.before.before.before.before.before.before.before.before.loop.i)) (ap (λ (l : List ℕ). get_or l 5 0) c.before.before.before.before.before.before.before.before.before.before.before.before.before.before.before.before.before.before.before.before.before.part-offsets.ensures)) c.before.before.before.before.before.before.before.before.before.before.before.fold-statement.ensures (omega (arith, c.before.before.before.before.before.before.before.before.before.before.before.before.before.before.before.before.before.before.before.before.before.before.before.before.before.before.before.before.before.requires.1.1.1, c.before.before.before.before.before.before.before.before.before.before.before.before.before.before.before.before.before.before.before.loop.invariant.5)) c.before.before.before.before.before.before.before.before.before.before.before.before.before.before.before.before.before.before.before.loop.invariant.8 in
+    omega (arith, some, few, c.before.before.before.before.before.before.before.before.before.before.before.before.before.before.before.before.before.before.before.loop.invariant.5, c.before.before.before.before.before.before.before.before.before.before.before.before.before.before.before.before.before.before.loop-test.true, c.before.before.before.before.before.before.before.before.before.before.before.before.before.before.before.before.before.before.before.before.size.ensures, c.before.before.before.before.before.before.before.before.before.before.before.before.before.before.before.before.before.before.before.before.before.before.before.before.before.before.before.before.before.requires.1.1.1)
 
 add-i : tie.Need-overflow-add-i invariant-loop decreases-loop
 add-i c = omega arith
@@ -76,17 +84,18 @@ loop-less : tie.Need-loop-smaller invariant-loop decreases-loop
 loop-less c = omega arith
 
 loop-again : tie.Need-loop-preserved invariant-loop decreases-loop
-loop-again c = (
-  c.before.before.before.before.before.before.before.before.before.before.before.before.before.before.before.fold-statement.auto.1.1.0 ∙ c.before.before.before.before.before.before.before.before.before.before.before.before.before.before.before.before.before.before.before.before.before.before.before.loop.invariant.0,
-  c.before.before.before.before.before.before.before.before.before.before.before.before.before.before.before.fold-statement.auto.1.1.1.0 ∙ c.before.before.before.before.before.before.before.before.before.before.before.before.before.before.before.before.before.before.before.before.before.before.before.loop.invariant.1,
-  c.before.before.before.before.before.before.before.before.before.before.before.before.before.before.before.fold-statement.auto.1.1.1.1.0 ∙ c.before.before.before.before.before.before.before.before.before.before.before.before.before.before.before.before.before.before.before.before.before.before.before.loop.invariant.2,
-  c.before.before.before.before.before.before.before.before.before.before.before.before.before.before.before.fold-statement.auto.1.1.1.1.1.0 ∙ c.before.before.before.before.before.before.before.before.before.before.before.before.before.before.before.before.before.before.before.before.before.before.before.loop.invariant.3,
-  c.before.before.before.before.before.before.before.before.before.before.before.before.before.before.before.fold-statement.auto.1.1.1.1.1.1.0 ∙ c.before.before.before.before.before.before.before.before.before.before.before.before.before.before.before.before.before.before.before.before.before.before.before.loop.invariant.4,
-  c.before.before.before.list-number.auto.0 ∙ c.before.before.before.before.before.before.before.before.before.before.before.before.before.before.before.before.before.before.before.before.before.before.before.loop.invariant.5,
-  (λ i. omega (arith, c.before.before.before.before.before.before.before.before.before.before.before.slice-known8.given i)),
-  (λ i. omega (arith, c.before.before.before.before.before.before.before.slice-known10.given i)),
-  ordered_next c.before.before.before.before.before.before.before.before.before.before.before.before.before.before.before.before.before.before.before.before.before.before.before.before.before.before.before.before.before.before.before.before.before.args.merging c.before.before.before.before.before.before.before.before.before.before.before.before.before.before.before.before.before.before.before.before.before.before.before.before.before.before.before.before.before.before.before.before.before.args.file.now c.before.before.before.before.before.before.before.before.before.before.before.before.before.before.before.before.before.before.before.before.before.before.before.before.before.before.before.before.before.before.before.before.before.args.h (omega arith) _ _ _ _ _ c.before.before.before.before.before.before.before.before.before.before.before.before.before.before.before.before.before.before.before.before.before.statement-at.result c.before.before.before.before.before.before.before.before.before.before.before.before.before.before.before.fold-statement.result.progress c.before.before.before.before.before.before.before.before.before.before.before.before.before.before.before.fold-statement.result.kept (c.before.before.before.before.before.before.before.before.before.before.before.before.before.before.before.before.before.before.before.before.before.statement-at.ensures ∙ ap (λ (k : ℕ). statement_at c.before.before.before.before.before.before.before.before.before.before.before.before.before.before.before.before.before.before.before.before.before.before.before.before.before.before.before.before.before.before.before.before.before.args.file.now (k + 4 * c.before.before.before.before.before.before.before.before.before.before.before.before.before.before.before.before.before.before.before.before.before.before.before.loop.i)) (ap (λ (l : List ℕ). get_or l 5 0) c.before.before.before.before.before.before.before.before.before.before.before.before.before.before.before.before.before.before.before.before.before.before.before.before.before.part-offsets.ensures)) c.before.before.before.before.before.before.before.before.before.before.before.before.before.before.before.fold-statement.ensures.0 c.before.before.before.before.before.before.before.before.before.before.before.before.before.before.before.fold-statement.ensures.1 (omega (arith, c.before.before.before.before.before.before.before.before.before.before.before.before.before.before.before.before.before.before.before.before.before.before.before.before.before.before.before.before.before.before.before.before.before.requires.1.1.1, c.before.before.before.before.before.before.before.before.before.before.before.before.before.before.before.before.before.before.before.before.before.before.before.loop.invariant.5)) _ c.before.before.before.list-number.ensures c.before.before.before.before.before.before.before.before.before.before.before.before.before.before.before.before.before.before.before.before.before.before.before.loop.invariant.8,
-)
+loop-again c =
+    let (some, few, on) = ordered_on c.before.before.before.before.before.before.before.before.before.before.before.before.before.before.before.before.before.before.before.before.before.before.before.before.before.before.before.before.before.args.file.now c.before.before.before.before.before.before.before.before.before.before.before.before.before.before.before.before.before.before.before.before.before.before.before.before.before.before.before.before.before.args.h (omega arith) _ _ _ _ _ c.before.before.before.before.before.before.before.before.before.before.before.before.before.before.before.before.before.statement-at.result c.before.before.before.before.before.before.before.before.before.before.before.fold-statement.result (c.before.before.before.before.before.before.before.before.before.before.before.before.before.before.before.before.before.statement-at.ensures ∙ ap (λ (k : ℕ). statement_at c.before.before.before.before.before.before.before.before.before.before.before.before.before.before.before.before.before.before.before.before.before.before.before.before.before.before.before.before.before.args.file.now (k + 4 * c.before.before.before.before.before.before.before.before.before.before.before.before.before.before.before.before.before.before.before.loop.i)) (ap (λ (l : List ℕ). get_or l 5 0) c.before.before.before.before.before.before.before.before.before.before.before.before.before.before.before.before.before.before.before.before.before.part-offsets.ensures)) c.before.before.before.before.before.before.before.before.before.before.before.fold-statement.ensures (omega (arith, c.before.before.before.before.before.before.before.before.before.before.before.before.before.before.before.before.before.before.before.before.before.before.before.before.before.before.before.before.before.requires.1.1.1, c.before.before.before.before.before.before.before.before.before.before.before.before.before.before.before.before.before.before.before.loop.invariant.5)) c.before.before.before.before.before.before.before.before.before.before.before.before.before.before.before.before.before.before.before.loop.invariant.8 in (
+      c.before.before.before.before.before.before.before.before.before.before.before.fold-statement.auto.1.1.0 ∙ c.before.before.before.before.before.before.before.before.before.before.before.before.before.before.before.before.before.before.before.loop.invariant.0,
+      c.before.before.before.before.before.before.before.before.before.before.before.fold-statement.auto.1.1.1.0 ∙ c.before.before.before.before.before.before.before.before.before.before.before.before.before.before.before.before.before.before.before.loop.invariant.1,
+      c.before.before.before.before.before.before.before.before.before.before.before.fold-statement.auto.1.1.1.1.0 ∙ c.before.before.before.before.before.before.before.before.before.before.before.before.before.before.before.before.before.before.before.loop.invariant.2,
+      c.before.before.before.before.before.before.before.before.before.before.before.fold-statement.auto.1.1.1.1.1.0 ∙ c.before.before.before.before.before.before.before.before.before.before.before.before.before.before.before.before.before.before.before.loop.invariant.3,
+      c.before.before.before.before.before.before.before.before.before.before.before.fold-statement.auto.1.1.1.1.1.1.0 ∙ c.before.before.before.before.before.before.before.before.before.before.before.before.before.before.before.before.before.before.before.loop.invariant.4,
+      length-set c.before.before.before.before.before.before.before.before.before.before.before.before.before.before.before.before.before.before.before.loop.auto _ _ ∙ c.before.before.before.before.before.before.before.before.before.before.before.before.before.before.before.before.before.before.before.loop.invariant.5,
+      (λ i. omega (arith, (c.before.before.before.before.before.before.before.slice-known8).given i)),
+      (λ i. omega (arith, (c.before.before.before.slice-known10).given i)),
+      on,
+    )
 
 same_length : tie.Need-same-length invariant-loop decreases-loop
 same_length c = c.before.loop.invariant.0
@@ -109,7 +118,7 @@ same-length-6 c = c.before.loop.invariant.5
 returns : tie.Need-returns invariant-loop decreases-loop
 returns c =
     let v = c.before.loop.invariant in
-    ordered_ends c.before.before.before.before.before.before.before.before.before.before.before.args.merging c.before.before.before.before.before.before.before.before.before.before.before.args.file.now c.before.before.before.before.before.before.before.before.before.before.before.args.h (omega arith) (omega (arith, c.before.before.before.before.before.before.before.before.before.before.before.requires.1.1.0), omega (arith, c.before.before.before.before.before.before.before.before.before.before.before.requires.1.1.0), omega (arith, c.before.before.before.before.before.before.before.before.before.before.before.requires.1.1.0), omega (arith, c.before.before.before.before.before.before.before.before.before.before.before.requires.1.1.0), omega (arith, c.before.before.before.before.before.before.before.before.before.before.before.requires.1.1.0)) (omega (arith, c.before.before.before.before.before.before.before.before.before.before.before.requires.1.1.1, v.5)) v.6 v.7 v.8
+    ordered_ends c.before.before.before.before.before.before.before.before.before.before.before.args.file.now c.before.before.before.before.before.before.before.before.before.before.before.args.h (omega arith) (omega (arith, c.before.before.before.before.before.before.before.before.before.before.before.requires.1.1.0), omega (arith, c.before.before.before.before.before.before.before.before.before.before.before.requires.1.1.0), omega (arith, c.before.before.before.before.before.before.before.before.before.before.before.requires.1.1.0), omega (arith, c.before.before.before.before.before.before.before.before.before.before.before.requires.1.1.0), omega (arith, c.before.before.before.before.before.before.before.before.before.before.before.requires.1.1.0)) (omega (arith, c.before.before.before.before.before.before.before.before.before.before.before.requires.1.1.1, v.5)) v.6 v.7 v.8
 
 pub fold-statements-spec : {M : Type 1} → statement M
 fold-statements-spec =
@@ -125,7 +134,10 @@ fold-statements-spec =
     add-statement-at
     statement-at-requires
     fold-statement-requires
-    list-number-requires
+    sub-last
+    cast-kept
+    mul-kept
+    slice-write-kept
     add-i
     loop-less
     loop-again

@@ -1,17 +1,10 @@
 -- `statements::statement::fold_statement` meets its contract. Assumes nothing.
 use Rattle.records.specs.File.{read}
 use Rattle.walk_rules.specs.Context.{context_of}
-use borrow.Author.Rules.{rules}
-use Rattle.statements.proofs.Folding.{fold-kind, other-folds, tells-kept}
+use Rattle.statements.proofs.Folding.{other-folds, fold-kind}
 use borrow.Author.Rules.{rules}
 use Rattle.statements.proofs.statement.fold_statement.Statement.{statement}
 use Rattle.statements.proofs.statement.fold_statement.Tie as tie
-use Rattle.statements.proofs.statement.fold_statement.Reads as reads
-use Rattle.statements.proofs.statement.fold_statement.Lts as lts
-use Rattle.statements.proofs.declaration.handle_variable_declaration.Reads as handle-variable-declaration-reads
-use Rattle.statements.proofs.statement.handle_expression_statement.Reads as handle-expression-statement-reads
-use Rattle.statements.proofs.statement.kept.Reads as kept-reads
-use Rattle.statements_progress.proofs.push.push_statement.Reads as push-statement-reads
 
 handle-expression-statement-requires : tie.Need-handle-expression-statement-requires
 handle-expression-statement-requires c κs = (c.before.before.before.before.before.before.before.before.before.before.before.before.before.requires.0, (c.before.before.before.before.before.before.before.before.before.before.before.before.before.requires.1.0, (c.before.before.before.before.before.before.before.before.before.before.before.before.before.requires.1.1, c.before.before.before.before.before.if1.true)))
@@ -37,22 +30,16 @@ returns c = search rules
 push-statement-requires : tie.Need-push-statement-requires
 push-statement-requires c κs = search rules
 
-kept-requires : tie.Need-kept-requires
-kept-requires c κs = search rules
-
 same-length-6 : tie.Need-same-length-6
 same-length-6 c = search rules
 
 returns-2 : tie.Need-returns-2
-returns-2 c = rw c.kept.ensures (other-folds c.before.before.before.before.before.before.before.before.before.before.before.before.before.before.before.args.merging (context_of (read c.before.before.before.before.before.before.before.before.before.before.before.before.before.before.before.args.file.now)) c.before.before.before.before.before.before.before.before.before.before.before.before.before.before.before.args.file.now c.before.before.before.before.before.before.before.before.before.before.before.before.before.before.before.args.h c.before.before.before.before.before.before.before.before.before.before.before.before.before.before.before.args.nodes.now c.before.before.before.before.before.before.before.before.before.before.before.before.before.before.before.args.declarators.now c.before.before.before.before.before.before.before.before.before.before.before.before.before.before.before.args.starts.now c.before.before.before.before.before.before.before.before.before.before.before.before.before.before.before.args.statements.now c.before.before.before.before.before.before.before.before.before.before.before.before.before.before.before.args.s c.before.before.before.before.before.before.before.before.before.before.before.before.before.before.before.args.p _ _ _ c.before.before.before.before.before.if2.true c.before.before.before.push-statement.ensures.1 c.before.before.before.push-statement.ensures.0, tells-kept c.before.before.before.before.before.before.before.before.before.before.before.before.before.before.before.args.merging (context_of (read c.before.before.before.before.before.before.before.before.before.before.before.before.before.before.before.args.file.now)) c.before.before.before.before.before.before.before.before.before.before.before.before.before.before.before.args.file.now c.before.before.before.before.before.before.before.before.before.before.before.before.before.before.before.args.h c.before.before.before.before.before.before.before.before.before.before.before.before.before.before.before.args.nodes.now c.before.before.before.before.before.before.before.before.before.before.before.before.before.before.before.args.declarators.now c.before.before.before.before.before.before.before.before.before.before.before.before.before.before.before.args.starts.now c.before.before.before.before.before.before.before.before.before.before.before.before.before.before.before.args.statements.now c.before.before.before.before.before.before.before.before.before.before.before.before.before.before.before.args.s c.before.before.before.before.before.before.before.before.before.before.before.before.before.before.before.args.p c.before.before.before.before.before.before.before.if1.false)
+returns-2 c = other-folds (context_of (read c.before.before.before.before.before.before.before.before.before.before.before.before.before.before.args.file.now)) c.before.before.before.before.before.before.before.before.before.before.before.before.before.before.args.file.now c.before.before.before.before.before.before.before.before.before.before.before.before.before.before.args.h c.before.before.before.before.before.before.before.before.before.before.before.before.before.before.args.nodes.now c.before.before.before.before.before.before.before.before.before.before.before.before.before.before.args.declarators.now c.before.before.before.before.before.before.before.before.before.before.before.before.before.before.args.starts.now c.before.before.before.before.before.before.before.before.before.before.before.before.before.before.args.statements.now c.before.before.before.before.before.before.before.before.before.before.before.before.before.before.args.s c.before.before.before.before.before.before.before.before.before.before.before.before.before.before.args.p _ c.before.before.before.before.before.before.before.before.before.before.before.before.before.before.args.folded.now _ c.before.before.before.before.if2.true c.before.before.push-statement.ensures.1 c.before.before.push-statement.ensures.0
 
 handle-variable-declaration-requires : tie.Need-handle-variable-declaration-requires
 handle-variable-declaration-requires c κs =
     let x = fold-kind c.before.before.before.before.before.before.before.before.before.before.before.before.before.before.before.args.file.now c.before.before.before.before.before.before.before.before.before.before.before.before.before.before.before.args.h c.before.before.before.before.before.before.before.before.before.before.before.before.before.before.before.args.nodes.now c.before.before.before.before.before.before.before.before.before.before.before.before.before.before.before.args.declarators.now c.before.before.before.before.before.before.before.before.before.before.before.before.before.before.before.args.starts.now c.before.before.before.before.before.before.before.before.before.before.before.before.before.before.before.args.statements.now c.before.before.before.before.before.before.before.before.before.before.before.before.before.before.before.args.s c.before.before.before.before.before.before.before.before.before.before.before.before.before.before.before.args.p c.before.before.before.before.before.before.before.before.before.before.before.before.before.before.before.requires.1.1 c.before.before.before.before.before.before.before.if1.false c.before.before.before.before.before.if2.false in
     (c.before.before.before.before.before.before.before.before.before.before.before.before.before.before.before.requires.0, (c.before.before.before.before.before.before.before.before.before.before.before.before.before.before.before.requires.1.0, (c.before.before.before.before.before.before.before.before.before.before.before.before.before.before.before.requires.1.1, x)))
-
-kept-requires-2 : tie.Need-kept-requires-2
-kept-requires-2 c κs = search rules
 
 same-length-7 : tie.Need-same-length-7
 same-length-7 c = search rules
@@ -70,7 +57,7 @@ same-length-11 : tie.Need-same-length-11
 same-length-11 c = search rules
 
 returns-3 : tie.Need-returns-3
-returns-3 c = rw c.kept2.ensures (c.before.before.before.before.before.before.before.before.before.before.before.handle-variable-declaration.ensures, tells-kept c.before.before.before.before.before.before.before.before.before.before.before.before.before.before.before.before.before.before.before.before.before.before.before.before.before.before.before.args.merging (context_of (read c.before.before.before.before.before.before.before.before.before.before.before.before.before.before.before.before.before.before.before.before.before.before.before.before.before.before.before.args.file.now)) c.before.before.before.before.before.before.before.before.before.before.before.before.before.before.before.before.before.before.before.before.before.before.before.before.before.before.before.args.file.now c.before.before.before.before.before.before.before.before.before.before.before.before.before.before.before.before.before.before.before.before.before.before.before.before.before.before.before.args.h c.before.before.before.before.before.before.before.before.before.before.before.before.before.before.before.before.before.before.before.before.before.before.before.before.before.before.before.args.nodes.now c.before.before.before.before.before.before.before.before.before.before.before.before.before.before.before.before.before.before.before.before.before.before.before.before.before.before.before.args.declarators.now c.before.before.before.before.before.before.before.before.before.before.before.before.before.before.before.before.before.before.before.before.before.before.before.before.before.before.before.args.starts.now c.before.before.before.before.before.before.before.before.before.before.before.before.before.before.before.before.before.before.before.before.before.before.before.before.before.before.before.args.statements.now c.before.before.before.before.before.before.before.before.before.before.before.before.before.before.before.before.before.before.before.before.before.before.before.before.before.before.before.args.s c.before.before.before.before.before.before.before.before.before.before.before.before.before.before.before.before.before.before.before.before.before.before.before.before.before.before.before.args.p c.before.before.before.before.before.before.before.before.before.before.before.before.before.before.before.before.before.before.before.if1.false)
+returns-3 c = search rules
 
 pub fold-statement-spec : {M : Type 1} → statement M
 fold-statement-spec =
@@ -84,11 +71,9 @@ fold-statement-spec =
     same-length-5
     returns
     push-statement-requires
-    kept-requires
     same-length-6
     returns-2
     handle-variable-declaration-requires
-    kept-requires-2
     same-length-7
     same-length-8
     same-length-9

@@ -16,7 +16,7 @@ refused-requires : tie.Need-refused-requires
 refused-requires c κs = search rules
 
 returns : tie.Need-returns
-returns c = comes-refused c.before.before.before.before.before.before.before.before.args.merging c.before.before.before.before.before.before.before.before.args.file.now c.before.before.before.before.before.before.before.before.args.room c.before.before.number_of_lem.result c.before.before.before.before.before.before.before.before.args.output.now c.before.before.before.before.before.before.before.before.args.folded.now c.before.before.before.before.before.before.before.before.args.kept.now (c.before.before.number_of_lem.ensures ∙ c.before.before.before.check-records.ensures) c.before.if1.true c.refused.ensures
+returns c = comes-refused c.before.before.before.before.before.before.before.before.args.file.now c.before.before.before.before.before.before.before.before.args.room c.before.before.number_of_lem.result c.before.before.before.before.before.before.before.before.args.output.now c.before.before.before.before.before.before.before.before.args.folded.now c.before.before.before.before.before.before.before.before.args.kept.now (c.before.before.number_of_lem.ensures ∙ c.before.before.before.check-records.ensures) c.before.if1.true c.refused.ensures
 
 slice-aggregate-fold-over : tie.Need-slice-aggregate-fold-over
 slice-aggregate-fold-over c = search rules
@@ -48,7 +48,7 @@ same-length-3 c = search rules
 returns-2 : tie.Need-returns-2
 returns-2 c =
     let e = c.before.before.before.before.before.before.before.before.before.before.fold_over.ensures in
-    comes-folded c.before.before.before.before.before.before.before.before.before.before.before.before.before.before.before.before.before.before.before.before.before.before.before.before.before.args.merging c.before.before.before.before.before.before.before.before.before.before.before.before.before.before.before.before.before.before.before.before.before.before.before.before.before.args.file.now c.before.before.before.before.before.before.before.before.before.before.before.before.before.before.before.before.before.before.before.before.before.before.before.before.before.args.room c.before.before.before.before.before.before.before.before.before.before.before.before.before.before.before.before.before.before.before.before.before.before.before.before.before.args.output.now c.before.before.before.before.before.before.before.before.before.before.before.before.before.before.before.before.before.before.before.before.before.before.before.before.before.args.folded.now _ (none-refuses c.before.before.before.before.before.before.before.before.before.before.before.before.before.before.before.before.before.before.before.before.before.before.before.before.before.args.file.now c.before.before.before.before.before.before.before.before.before.before.before.before.before.before.before.before.before.before.before.before.before.before.before.before.before.args.room c.before.before.before.before.before.before.before.before.before.before.before.before.before.before.before.before.before.before.before.number_of_lem.result (c.before.before.before.before.before.before.before.before.before.before.before.before.before.before.before.before.before.before.before.number_of_lem.ensures ∙ c.before.before.before.before.before.before.before.before.before.before.before.before.before.before.before.before.before.before.before.before.check-records.ensures) (omega (arith, c.before.before.before.before.before.before.before.before.before.before.before.before.before.before.before.before.before.before.if1.false))) e.0 e.1.0 e.1.1.0 e.1.1.1
+    comes-folded c.before.before.before.before.before.before.before.before.before.before.before.before.before.before.before.before.before.before.before.before.before.before.before.before.before.args.file.now c.before.before.before.before.before.before.before.before.before.before.before.before.before.before.before.before.before.before.before.before.before.before.before.before.before.args.room c.before.before.before.before.before.before.before.before.before.before.before.before.before.before.before.before.before.before.before.before.before.before.before.before.before.args.output.now c.before.before.before.before.before.before.before.before.before.before.before.before.before.before.before.before.before.before.before.before.before.before.before.before.before.args.folded.now _ (none-refuses c.before.before.before.before.before.before.before.before.before.before.before.before.before.before.before.before.before.before.before.before.before.before.before.before.before.args.file.now c.before.before.before.before.before.before.before.before.before.before.before.before.before.before.before.before.before.before.before.before.before.before.before.before.before.args.room c.before.before.before.before.before.before.before.before.before.before.before.before.before.before.before.before.before.before.before.number_of_lem.result (c.before.before.before.before.before.before.before.before.before.before.before.before.before.before.before.before.before.before.before.number_of_lem.ensures ∙ c.before.before.before.before.before.before.before.before.before.before.before.before.before.before.before.before.before.before.before.before.check-records.ensures) (omega (arith, c.before.before.before.before.before.before.before.before.before.before.before.before.before.before.before.before.before.before.if1.false))) e.0 e.1.0 e.1.1.0 e.1.1.1
 
 pub fold-small-spec : {M : Type 1} → statement M
 fold-small-spec =

@@ -1,7 +1,6 @@
 -- `statements_steady::repeat::repeat_over` meets its contract. Assumes nothing.
 use Prim.Native.Nat.{◌-◌, ◌≤◌}
 use native.Mathlib.Omega.{arith}
-use mathlib.Core.Bool.{false}
 use mathlib.Core.Path.{sym, ap, ◌∙◌, subst}
 use lib.ListN.{length, take}
 use lib.Seq.{length-take-le}
@@ -34,7 +33,7 @@ returns : tie.Need-returns invariant-loop decreases-loop
 returns c =
     let f = c.before.before.before.before.before.before.before.before.before.before.args.file.now in
     let r = c.before.before.before.before.fold-once in
-    all-refused f _ c.before.before.before.before.before.before.before.before.before.before.args.output.now r.result.number (ap (λ (x : Run). x.number) r.ensures.0 ∙ number_is false f _) c.if1.true
+    all-refused f _ c.before.before.before.before.before.before.before.before.before.before.args.output.now r.result.number (ap (λ (x : Run). x.number) r.ensures.0 ∙ number_is f _) c.if1.true
 
 loop-holds : tie.Need-loop-init invariant-loop decreases-loop
 loop-holds c = first_run c.before.before.before.before.before.before.before.before.before.before.args.current.now c.before.before.before.before.before.before.before.before.before.before.args.next.now c.before.before.before.before.fold-once.ensures.0 c.before.before.before.before.fold-once.ensures.1 (omega (arith, c.if1.false))

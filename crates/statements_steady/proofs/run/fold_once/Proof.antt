@@ -1,5 +1,4 @@
 -- `statements_steady::run::fold_once` meets its contract. Assumes nothing.
-use mathlib.Core.Bool.{false}
 use mathlib.Core.Path.{sym, subst}
 use lib.Seq.{length-take-le}
 use Rattle.records_refusal.specs.Passing.{HeaderPasses}
@@ -30,12 +29,12 @@ fold-records-requires c κs =
 slice-reshare-prefix-same-bytes : tie.Need-slice-reshare-prefix-same-bytes
 slice-reshare-prefix-same-bytes c =
     let s = c.before.before.before.before.before.before.before.before.before.before.before in
-    (by_definition false s.args.file.now s.args.room s.args.res.now (λ e. s.requires.1) c.before.before.before.before.fold-records.ensures).within
+    (by_definition s.args.file.now s.args.room s.args.res.now (λ e. s.requires.1) c.before.before.before.before.fold-records.ensures).within
 
 slice-aggregate-same-bytes : tie.Need-slice-aggregate-same-bytes
 slice-aggregate-same-bytes c =
     let s = c.before.before.before.before.before.before.before.before.before.before.before.before in
-    sym (length-take-le _ _ (by_definition false s.args.file.now s.args.room s.args.res.now (λ e. s.requires.1) c.before.before.before.before.before.fold-records.ensures).within)
+    sym (length-take-le _ _ (by_definition s.args.file.now s.args.room s.args.res.now (λ e. s.requires.1) c.before.before.before.before.before.fold-records.ensures).within)
 
 same-bytes-requires : tie.Need-same-bytes-requires
 same-bytes-requires c κs = search rules
@@ -46,7 +45,7 @@ same_length c = search rules
 returns : tie.Need-returns
 returns c =
     let s = c.before.before.before.before.before.before.before.before.before.before.before.before.before in
-    let w = by_definition false s.args.file.now s.args.room s.args.res.now (λ e. s.requires.1) c.before.before.before.before.before.before.fold-records.ensures in
+    let w = by_definition s.args.file.now s.args.room s.args.res.now (λ e. s.requires.1) c.before.before.before.before.before.before.fold-records.ensures in
     (run_is w c.same_bytes.ensures, w.written)
 
 pub fold-once-spec : {M : Type 1} → statement M

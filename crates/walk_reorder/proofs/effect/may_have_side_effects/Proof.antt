@@ -5,7 +5,7 @@ use Prim.Native.Nat.{◌+◌, ◌*◌, ◌-◌, ◌≤◌}
 use native.Mathlib.Omega.{arith}
 use lib.ListN.{length}
 use Rattle.records.specs.Tree.{none, more}
-use Rattle.walk_reorder.proofs.Passing.{Passing, passing-none, passing-more, passing-all, pending-fits, effect-seen, alone}
+use Rattle.walk_reorder.proofs.Passing.{Passing, passing-none, passing-more, passing-all, pending_fits, effect-seen, alone}
 use Rattle.walk_reorder.proofs.effect.may_have_side_effects.Statement.{statement}
 use Rattle.walk_reorder.proofs.effect.may_have_side_effects.Tie as tie
 
@@ -23,7 +23,7 @@ fits : (c : tie.In-loop invariant-loop decreases-loop)
     → 16 * c.before.loop.next.0 + 16 * c.before.loop.pending ≤ length c.before.before.before.args.nodes.now
 fits c =
     let p = c.before.before.before.requires in
-    pending-fits (c.before.loop.invariant p.0 (more p.1 none) p.2 p.3 (alone p.1).0).2
+    pending_fits (c.before.loop.invariant p.0 (more p.1 none) p.2 p.3 (alone p.1).0).2
 
 work-node-requires : tie.Need-work-node-requires invariant-loop decreases-loop
 work-node-requires c κs = omega (arith, fits c)

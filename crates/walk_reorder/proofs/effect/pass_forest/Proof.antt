@@ -2,7 +2,7 @@
 use Prim.Native.Nat.{◌+◌, ◌*◌, ◌-◌, ◌≤◌}
 use native.Mathlib.Omega.{arith}
 use lib.ListN.{length}
-use Rattle.walk_reorder.proofs.Passing.{Passing, passing-none, passing-more, passing-all, pending-fits}
+use Rattle.walk_reorder.proofs.Passing.{Passing, passing-none, passing-more, passing-all, pending_fits}
 use Rattle.walk_reorder.proofs.effect.pass_forest.Statement.{statement}
 use Rattle.walk_reorder.proofs.effect.pass_forest.Tie as tie
 
@@ -20,7 +20,7 @@ fits : (c : tie.In-loop invariant-loop decreases-loop)
     → 16 * c.before.loop.next.0 + 16 * c.before.loop.pending ≤ length c.before.before.before.args.nodes.now
 fits c =
     let p = c.before.before.before.requires in
-    pending-fits (c.before.loop.invariant p.0 p.1 p.2 p.3 p.4).2
+    pending_fits (c.before.loop.invariant p.0 p.1 p.2 p.3 p.4).2
 
 work-node-requires : tie.Need-work-node-requires invariant-loop decreases-loop
 work-node-requires c κs = omega (arith, fits c)

@@ -1,7 +1,7 @@
 -- `walk_splice::blocks::put_node` meets its contract. Assumes nothing.
 use Prim.Native.Nat.{◌*◌}
 use Rattle.records_table.specs.Table.{work_bytes}
-use Rattle.records_table.proofs.Laid.{work-length}
+use Rattle.records_table.proofs.Laid.{work_length}
 use Rattle.records_table.proofs.Overwriting.{overwritten}
 use borrow.Author.Rules.{rules}
 use Rattle.walk_splice.proofs.blocks.put_node.Statement.{statement}
@@ -28,7 +28,7 @@ same_length c = search rules
 returns : tie.Need-returns
 returns c =
     let a = c.before.before.before.before.before.before.args in
-    overwritten (16 * a.at.0) 16 a.nodes.now (work_bytes a.n) _ (work-length a.n) c.before.before.put-work-node.ensures
+    overwritten (16 * a.at.0) 16 a.nodes.now (work_bytes a.n) _ (work_length a.n) c.before.before.put-work-node.ensures
 
 pub put-node-spec : {M : Type 1} → statement M
 put-node-spec =

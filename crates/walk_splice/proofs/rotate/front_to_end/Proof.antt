@@ -4,7 +4,7 @@ use Prim.Native.Nat.{◌*◌, ◌-◌}
 use native.Mathlib.Omega.{arith}
 use lib.ListN.{take}
 use Rattle.walk_splice.proofs.Copying.{part_read, part_read-length}
-use Rattle.walk_splice.proofs.Rotation.{front-moved}
+use Rattle.walk_splice.proofs.Rotation.{front_moved}
 use borrow.Author.Rules.{rules}
 use Rattle.walk_splice.proofs.rotate.front_to_end.Statement.{statement}
 use Rattle.walk_splice.proofs.rotate.front_to_end.Tie as tie
@@ -63,7 +63,7 @@ returns c =
     let from = 16 * a.first.0 in
     let to = 16 * a.second.0 in
     let read = part_read from to a.nodes.now _ (omega arith) (omega arith) c.before.before.before.before.before.before.before.before.before.before.before.before.before.before.copy.ensures.1 in
-    front-moved a.nodes.now c.before.before.before.before.before.before.before.before.move_down.new.0 c.before.before.put-block.new.0 (take (to - from) c.before.before.before.before.before.before.before.before.before.before.before.before.before.before.copy.new.1.0) from to (16 * a.end.0) (16 * a.end.0 - (to - from)) (to - from) (16 * (a.end.0 - a.second.0)) refl (omega arith) (omega arith) read c.before.before.before.before.before.before.before.before.move_down.ensures c.before.before.put-block.ensures
+    front_moved a.nodes.now c.before.before.before.before.before.before.before.before.move_down.new.0 c.before.before.put-block.new.0 (take (to - from) c.before.before.before.before.before.before.before.before.before.before.before.before.before.before.copy.new.1.0) from to (16 * a.end.0) (16 * a.end.0 - (to - from)) (to - from) (16 * (a.end.0 - a.second.0)) refl (omega arith) (omega arith) read c.before.before.before.before.before.before.before.before.move_down.ensures c.before.before.put-block.ensures
 
 pub front-to-end-spec : {M : Type 1} → statement M
 front-to-end-spec =

@@ -12,11 +12,11 @@ use Rattle.walk_this.proofs.body_frames.frames_of.Statement.{statement}
 use Rattle.walk_this.proofs.body_frames.frames_of.Tie as tie
 
 -- one more record behind those that fill the first i places
-put-more : {A : Type 0} (read_at : ℕ → A) (len from i : ℕ) (xs : List A) (x : A) → i < length xs → take i xs ≡ records_from read_at len i from → x ≡ read_at (from + len * i)
-    → take (i + 1) (set xs i x) ≡ records_from read_at len (i + 1) from
+put-more : {A : Type 0} (readAt : ℕ → A) (len from i : ℕ) (xs : List A) (x : A) → i < length xs → take i xs ≡ records_from readAt len i from → x ≡ readAt (from + len * i)
+    → take (i + 1) (set xs i x) ≡ records_from readAt len (i + 1) from
 unfolding records_from
-put-more read_at len from i xs x h e ex = let k : i + 1 ≡ suc i = omega arith in
-    rw k (take-suc-set xs i x h ∙ ap₂ ◌++◌ e (ap (λ y. y ∷ []) ex)) ∙ sym (records_from_add read_at len i 1 from)
+put-more readAt len from i xs x h e ex = let k : i + 1 ≡ suc i = omega arith in
+    rw k (take-suc-set xs i x h ∙ ap₂ ◌++◌ e (ap (λ y. y ∷ []) ex)) ∙ sym (records_from_add readAt len i 1 from)
 
 abbrev invariant-loop : tie.invariant-loop
 invariant-loop file from count frames₀ i₀ frames i = (i ≤ count) × (length frames ≡ 16) × (take i frames ≡ records_from (frame_at file) 8 i from)
