@@ -1,4 +1,6 @@
 // Reads a record file from standard input and prints `accepted`, or `refused` with the number of the row that refuses it.
+#![tactic(auto)]
+
 use libc::STDOUT_FILENO;
 use records_refusal::check::refusal;
 use records_refusal::outcome::number_of;

@@ -1,5 +1,7 @@
 // Reads a record file from standard input, folds it, and prints the folds and the statements and nodes of the result;
 // then a line for each statement of the result. Of a file that is refused, the number of the row that refuses it.
+#![tactic(auto)]
+
 mod list;
 
 use list::print_result;

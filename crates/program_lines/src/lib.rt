@@ -1,4 +1,6 @@
 // Lines of text and numbers on standard output.
+#![tactic(auto)]
+
 use libc::STDOUT_FILENO;
 
 // A text, and a number behind it.

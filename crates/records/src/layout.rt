@@ -6,16 +6,16 @@ ghost use Rattle.records.specs.Record.{header_of, name_at, scope_at, frame_at, n
 
 use crate::number::{u16_at, u32_at};
 
-#[derive(Drop)]
+#[derive(Clone, Copy)]
 pub struct NameId(pub u16);
 
-#[derive(Drop)]
+#[derive(Clone, Copy)]
 pub struct ScopeId(pub u16);
 
-#[derive(Drop)]
+#[derive(Clone, Copy)]
 pub struct NodeId(pub usize);
 
-#[derive(Drop)]
+#[derive(Clone, Copy)]
 pub struct Header {
     pub options: u8,
     pub version: u16,
@@ -30,7 +30,7 @@ pub struct Header {
     pub last: u16,
 }
 
-#[derive(Drop)]
+#[derive(Clone, Copy)]
 pub struct NameFacts {
     pub flags: u16,
     pub scope: u16,
@@ -38,20 +38,20 @@ pub struct NameFacts {
     pub writes: u32,
 }
 
-#[derive(Drop)]
+#[derive(Clone, Copy)]
 pub struct Scope {
     pub parent: u16,
     pub flags: u16,
 }
 
-#[derive(Drop)]
+#[derive(Clone, Copy)]
 pub struct Frame {
     pub scope: u16,
     pub zero: u16,
     pub initialised: u32,
 }
 
-#[derive(Drop)]
+#[derive(Clone, Copy)]
 pub struct NodeRecord {
     pub kind: u8,
     pub flags: u8,
@@ -61,13 +61,13 @@ pub struct NodeRecord {
     pub position: u32,
 }
 
-#[derive(Drop)]
+#[derive(Clone, Copy)]
 pub struct DeclaratorRecord {
     pub name: u16,
     pub present: u16,
 }
 
-#[derive(Drop)]
+#[derive(Clone, Copy)]
 pub struct StatementRecord {
     pub kind: u8,
     pub zero: u8,

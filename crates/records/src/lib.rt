@@ -1,4 +1,7 @@
 // The record file: its kinds, flags and limits; its numbers and records, read and written; where its parts begin.
+#![tactic(auto)]
+
+pub mod copy;
 pub mod facts;
 pub mod flags;
 pub mod kinds;

@@ -4,6 +4,7 @@ ghost use Rattle.std.specs.Prelude.{◌≡◌, ◌++◌, ◌+◌, ◌-◌, ◌�
 ghost use Rattle.records.specs.Limits.{header_length, declarator_length, statement_length};
 ghost use Rattle.records.specs.Record.{header_bytes, declarator_bytes, statement_bytes};
 
+use crate::copy::copy;
 use crate::layout::{DeclaratorRecord, Header, StatementRecord};
 use crate::record_bytes::{declarator_bytes, header_bytes, statement_bytes};
 
@@ -12,7 +13,7 @@ pub fn put_header(out: &mut [u8], h: Header)
     ensures output { out.new ≡ header_bytes h ++ drop header_length out.old }
 {
     let record = header_bytes(h);
-    bytes::copy(&record, out);
+    copy(&record, out);
 }
 
 pub fn put_declarator(out: &mut [u8], d: DeclaratorRecord)
@@ -20,7 +21,7 @@ pub fn put_declarator(out: &mut [u8], d: DeclaratorRecord)
     ensures output { out.new ≡ declarator_bytes d ++ drop declarator_length out.old }
 {
     let record = declarator_bytes(d);
-    bytes::copy(&record, out);
+    copy(&record, out);
 }
 
 pub fn put_statement(out: &mut [u8], s: StatementRecord)
@@ -28,7 +29,7 @@ pub fn put_statement(out: &mut [u8], s: StatementRecord)
     ensures output { out.new ≡ statement_bytes s ++ drop statement_length out.old }
 {
     let record = statement_bytes(s);
-    bytes::copy(&record, out);
+    copy(&record, out);
 }
 
 // The bytes from one place to another, as they are: names, scopes and frames of a file, declarators and statements of a table.
@@ -39,5 +40,5 @@ pub fn put_copy(out: &mut [u8], file: &[u8], from: usize, to: usize)
     ensures output { let part = take (to - from) (drop from file.now) in
         out.new ≡ part ++ drop (to - from) out.old }
 {
-    bytes::copy(&file[from..to], out);
+    copy(&file[from..to], out);
 }

@@ -2,6 +2,8 @@
 ghost use Rattle.std.specs.Prelude.{◌≡◌, ◌++◌, ◌≤◌, length, drop};
 ghost use Rattle.records.specs.Bytes.{u32_bytes};
 
+use crate::copy::copy;
+
 fn u32_bytes(n: u32) -> [u8; 4]
     ensures result { result ≡ u32_bytes n }
 {
@@ -18,5 +20,5 @@ pub fn put_u32(out: &mut [u8], n: u32)
     ensures output { out.new ≡ u32_bytes n ++ drop 4 out.old }
 {
     let number = u32_bytes(n);
-    bytes::copy(&number, out);
+    copy(&number, out);
 }

@@ -37,7 +37,7 @@ pub fn facts_are_bad(file: &[u8], h: Header) -> bool
     !(good_names & good_scopes & good_frames)
 }
 
-#[derive(Drop)]
+#[derive(Clone, Copy)]
 pub struct StatementRow {
     pub bad: bool,
     pub trees: usize,
@@ -61,7 +61,7 @@ pub fn statement_row(file: &[u8], h: Header) -> StatementRow
     }
 }
 
-#[derive(Drop)]
+#[derive(Clone, Copy)]
 pub struct NodeRows {
     pub bad_nodes: bool,
     pub bad_trees: bool,

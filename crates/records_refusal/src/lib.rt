@@ -1,4 +1,6 @@
 // The refusal table over a whole file, and the public call.
+#![tactic(auto)]
+
 pub mod check;
 pub mod file_rows;
 pub mod outcome;

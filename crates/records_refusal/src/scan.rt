@@ -19,7 +19,7 @@ use records_tests::node::{FEWEST, MOST, node_is_good};
 
 // Where a pass ended: whether it met no node that is bad by itself, whether it took all nodes, where on the stack the entries
 // of the trees begin, and how many nodes are left.
-#[derive(Drop)]
+#[derive(Clone, Copy)]
 pub struct Scan {
     pub nodes_good: bool,
     pub trees_taken: bool,

@@ -6,7 +6,7 @@ use records::layout::Header;
 use records::limits::VERSION;
 
 // How many nodes, declarators and statements the result has.
-#[derive(Drop)]
+#[derive(Clone, Copy)]
 pub struct Counts {
     pub nodes: usize,
     pub declarators: usize,

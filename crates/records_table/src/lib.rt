@@ -1,4 +1,6 @@
 // The work table: 16 bytes to a node, its record and an end. A file's node records are copied to it, and written from it.
+#![tactic(auto)]
+
 pub mod load;
 
 ghost use Rattle.std.specs.Prelude.{◌≡◌, ◌++◌, ◌+◌, ◌*◌, ◌≤◌, length, drop, set};
@@ -8,6 +10,7 @@ ghost use Rattle.records.specs.Records.{records_from, bytes_of};
 ghost use Rattle.records.specs.declared.layout.NodeRecord.{NodeRecord as NodeRecordOf};
 ghost use Rattle.records_table.specs.Table.{work_length, work_bytes};
 
+use records::copy::copy;
 use records::layout::{NodeId, NodeRecord, node_at};
 use records::limits::NODE_LENGTH;
 use records::record_bytes::node_bytes;
@@ -52,7 +55,7 @@ pub fn put_work_node(out: &mut [u8], n: NodeRecord)
     ensures output { out.new ≡ work_bytes n ++ drop work_length out.old }
 {
     let record = work_bytes(node_bytes(n));
-    bytes::copy(&record, out);
+    copy(&record, out);
 }
 
 // Lays the node record at a place of a file down at the start of `out`, as a record of the table.
@@ -62,7 +65,7 @@ pub fn copy_node(file: &[u8], at: usize, out: &mut [u8])
     ensures output { out.new ≡ work_bytes (node_at file.now at) ++ drop work_length out.old }
 {
     let record = work_bytes(record_at(file, at));
-    bytes::copy(&record, out);
+    copy(&record, out);
 }
 
 // Lays the record at a place of the table down at the start of `out`, as a file's node record.
@@ -72,7 +75,7 @@ fn put_record(out: &mut [u8], table: &[u8], at: usize)
     ensures output { out.new ≡ node_bytes (node_at table.now at) ++ drop node_length out.old }
 {
     let record = record_at(table, at);
-    bytes::copy(&record, out);
+    copy(&record, out);
 }
 
 // The node part of a file: lays the table's first `count` records down at the start of `out`, each behind those before it.

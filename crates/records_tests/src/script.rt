@@ -30,7 +30,7 @@ pub fn statement_is_good(s: StatementRecord) -> bool
     (s.kind <= OTHER_STATEMENT) & (s.zero == 0) & (declaration | (s.declarators == 0))
 }
 
-#[derive(Drop)]
+#[derive(Clone, Copy)]
 pub struct DeclaratorTotals {
     pub good: bool,
     pub initializers: usize,
@@ -59,7 +59,7 @@ pub fn declarator_totals(file: &[u8], from: usize, count: usize, names: u16) -> 
     }
 }
 
-#[derive(Drop)]
+#[derive(Clone, Copy)]
 pub struct StatementTotals {
     pub good: bool,
     pub declarators: usize,

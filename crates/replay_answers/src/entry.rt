@@ -2,6 +2,7 @@
 ghost use Rattle.std.specs.Prelude.{◌+◌, ◌≤◌, length};
 
 use crate::segment::fill;
+use records::copy::copy;
 use records::number::u32_at;
 
 pub(crate) fn number_at(bytes: &[u8], at: usize) -> usize
@@ -19,7 +20,7 @@ const SAME: usize = 4294967295;
 // An entry without its bytes: the length of the output that is offered; what the fold, the repeat and measuring are to return; the
 // lengths of the file, of the fold's result and of the repeat's. `there` is false behind the last entry, and if the bytes aren't an
 // entry.
-#[derive(Drop)]
+#[derive(Clone, Copy)]
 pub struct Entry {
     pub there: bool,
     pub room: usize,
@@ -56,7 +57,7 @@ fn length_of(count: usize, before: usize) -> usize
 
 // The lengths at the head of an entry: of the output that is offered, of the file, of the fold's result and of the repeat's; and
 // whether a list may have those of the bytes that follow.
-#[derive(Drop)]
+#[derive(Clone, Copy)]
 struct Lengths {
     there: bool,
     room: usize,
@@ -114,7 +115,7 @@ fn fill_or_copy(head: &[u8; 40], place: usize, from: &[u8], to: &mut [u8], count
     requires to { count ≤ length to.old }
 {
     if number_at(head, place) == SAME {
-        bytes::copy(&from[..count], to);
+        copy(&from[..count], to);
         return true;
     }
     fill(to, count)

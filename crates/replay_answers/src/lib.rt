@@ -1,4 +1,6 @@
 // A list of answers (reference/README.md has its form), read from standard input.
+#![tactic(auto)]
+
 pub mod compare;
 pub mod entry;
 mod segment;

@@ -1,6 +1,8 @@
 // Reads a list of answers (reference/README.md has its form) from standard input, folds each file in it into an output of
 // the length that it names, once and until it is steady, measures it, and prints what isn't as the list says: the number, the folds,
 // the runs, the looks, the length of the result, its bytes, or a byte behind it that isn't as it was. Then the totals.
+#![tactic(auto)]
+
 ghost use Rattle.std.specs.Prelude.{◌≤◌, length};
 
 mod output;

@@ -3,7 +3,7 @@ use statements_fold::{FoldAnswer, fold};
 use statements_measure::{MeasureAnswer, measure};
 use statements_steady::{SteadyAnswer, fold_until_steady};
 
-#[derive(Drop)]
+#[derive(Clone, Copy)]
 pub struct Returned {
     pub number: usize,
     pub length: usize,
@@ -47,7 +47,7 @@ pub fn steady_for(file: &[u8], output: &mut [u8]) -> Returned {
     }
 }
 
-#[derive(Drop)]
+#[derive(Clone, Copy)]
 pub struct MeasuredNumbers {
     pub number: usize,
     pub length: usize,
@@ -71,7 +71,7 @@ pub fn measured_for(file: &[u8]) -> MeasuredNumbers {
 }
 
 // What all three returned for a file.
-#[derive(Drop)]
+#[derive(Clone, Copy)]
 pub struct Replayed {
     pub fold: Returned,
     pub steady: Returned,

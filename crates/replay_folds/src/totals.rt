@@ -2,7 +2,7 @@
 use crate::returned::{MeasuredNumbers, Replayed, Returned};
 use records::number::one;
 
-#[derive(Drop)]
+#[derive(Clone, Copy)]
 struct ReplayTotals {
     accepted: usize,
     folds: usize,
@@ -48,7 +48,7 @@ impl ReplayTotals {
     }
 }
 
-#[derive(Drop)]
+#[derive(Clone, Copy)]
 struct MeasureTotals {
     measured: usize,
     bytes: usize,
@@ -80,7 +80,7 @@ impl MeasureTotals {
     }
 }
 
-#[derive(Drop)]
+#[derive(Clone, Copy)]
 pub struct AllTotals {
     folds: ReplayTotals,
     repeats: ReplayTotals,

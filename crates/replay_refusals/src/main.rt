@@ -1,5 +1,7 @@
 // Reads a list of answers (reference/README.md has its form) from standard input, asks for the refusal of each file in it
 // with the room that it names, and prints each file whose number isn't the list's; then how many files got each number.
+#![tactic(auto)]
+
 ghost use Rattle.std.specs.Prelude.{◌≤◌, length};
 
 mod tally;

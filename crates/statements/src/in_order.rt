@@ -13,7 +13,7 @@ use records::parts::part_offsets;
 use statements_progress::progress::Progress;
 
 // How many nodes are in use, how many declarators and statements are kept, the folds and the looks.
-#[derive(Drop)]
+#[derive(Clone, Copy)]
 pub struct Totals {
     pub nodes_used: usize,
     pub declarators_kept: usize,

@@ -15,7 +15,7 @@ use statements_search::from_declarators::{
 };
 
 // A declaration under way: the number of its first declarator, and whether it is searched.
-#[derive(Drop)]
+#[derive(Clone, Copy)]
 pub(crate) struct Declaration {
     pub first: usize,
     pub searched: bool,

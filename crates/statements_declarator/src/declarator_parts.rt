@@ -7,19 +7,19 @@ use records::flags::is_recorded;
 use records::layout::{DeclaratorRecord, NameFacts, NameId, NodeId};
 use records::limits::NO_NUMBER;
 
-#[derive(Drop)]
+#[derive(Clone, Copy)]
 pub enum Initializer {
     Given(NodeId),
     Bare,
 }
 
-#[derive(Drop)]
+#[derive(Clone, Copy)]
 pub enum PlainName {
     Name(NameId),
     Pattern,
 }
 
-#[derive(Drop)]
+#[derive(Clone, Copy)]
 pub enum ValueRecord {
     Recorded(u32, u32),
     Unrecorded,

@@ -1,4 +1,6 @@
 // The fold of a record file: the public call. The record file has no counterpart in the Rust.
+#![tactic(auto)]
+
 pub mod tables;
 
 ghost use Rattle.std.specs.Prelude.{◌≡◌, length};
@@ -13,7 +15,7 @@ use records_refusal::check::header_refusal;
 use records_refusal::outcome::number_of;
 
 // Refused, with the number of document 01's table; or folded: the result's length, and the declarators folded.
-#[derive(Drop)]
+#[derive(Clone, Copy)]
 pub enum FoldAnswer {
     Refused(u8),
     Written(usize, usize),

@@ -25,7 +25,7 @@ use statements::in_order::fold_statements;
 
 // The number of the row that refuses the file, or 0; then the result's length, the declarators folded, the statements kept, and
 // the looks.
-#[derive(Drop)]
+#[derive(Clone, Copy)]
 pub struct Outcome {
     pub number: u8,
     pub length: usize,

@@ -1,5 +1,7 @@
 // The length of a fold's result and the looks of the fold, without an output: the public call. It has no counterpart in the Rust
 // that is ported.
+#![tactic(auto)]
+
 ghost use Rattle.std.specs.Prelude.{◌≡◌};
 ghost use Rattle.statements_measure.specs.Measure.{measure_bytes, numbers};
 ghost use Rattle.statements_measure.specs.Laws.{MeasureLaws};
@@ -13,7 +15,7 @@ use statements_fold::tables::fold_records;
 
 // Refused, with the number of document 01's table, never 11; or measured: the length of the result that folding gives, and the
 // looks that it makes.
-#[derive(Drop)]
+#[derive(Clone, Copy)]
 pub enum MeasureAnswer {
     Refused(u8),
     Measured(usize, usize),

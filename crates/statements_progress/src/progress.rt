@@ -4,7 +4,7 @@ use records::layout::NodeId;
 // Where the tree begins among the nodes in use that isn't pushed yet, or else where the next one will begin; how many nodes are
 // in use; the declarators and the statements that are kept; the folds and the looks; and how many nodes and declarators of the
 // file are read.
-#[derive(Drop)]
+#[derive(Clone, Copy)]
 pub struct Progress {
     pub tree: NodeId,
     pub nodes_used: usize,

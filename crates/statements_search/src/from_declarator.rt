@@ -17,7 +17,7 @@ use walk_arms::walked::Answer;
 use walk_splice::splice;
 
 // Whether the initializer was placed; where the searched tree begins then, how many nodes are in use, and the looks.
-#[derive(Drop)]
+#[derive(Clone, Copy)]
 pub struct Tried {
     pub folded: bool,
     pub tree: NodeId,

@@ -9,7 +9,7 @@ use records::layout::{Header, NodeId, declarator_at};
 use records::limits::DECLARATOR_LENGTH;
 
 // The tree that is searched: how many declarators are kept before it, and where it begins; it is the last of the nodes in use.
-#[derive(Drop)]
+#[derive(Clone, Copy)]
 pub struct SearchedTree {
     pub declarators_kept: usize,
     pub tree: NodeId,
@@ -17,7 +17,7 @@ pub struct SearchedTree {
 }
 
 // How many declarators are left, where the searched tree begins, how many nodes are in use, the folds and the looks.
-#[derive(Drop)]
+#[derive(Clone, Copy)]
 pub struct Searched {
     pub declarators_kept: usize,
     pub tree: NodeId,

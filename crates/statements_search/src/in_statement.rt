@@ -21,7 +21,7 @@ use statements_declarator::unsearched::is_unsearched;
 
 // How many statements and declarators are left, where the searched tree begins, how many nodes are in use, the folds and the
 // looks.
-#[derive(Drop)]
+#[derive(Clone, Copy)]
 pub struct InStatement {
     pub statements_kept: usize,
     pub declarators_kept: usize,

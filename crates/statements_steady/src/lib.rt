@@ -1,5 +1,7 @@
 // The fold of a record file repeated until the bytes stay the same: the public call. It has no counterpart in the Rust that is
 // ported.
+#![tactic(auto)]
+
 mod repeat;
 mod run;
 mod same;
@@ -18,7 +20,7 @@ use records_refusal::outcome::number_of;
 
 // Refused, with the number of document 01's table; or folded until steady: the last result's length, the declarators that all
 // runs folded, and the runs.
-#[derive(Drop)]
+#[derive(Clone, Copy)]
 pub enum SteadyAnswer {
     Refused(u8),
     Written(usize, usize, usize),

@@ -7,6 +7,7 @@ ghost use Rattle.statements_steady.specs.Answer.{Repeats};
 
 use crate::SteadyAnswer;
 use crate::run::fold_once;
+use records::copy::copy;
 use records::limits::MAX_ROOM;
 
 // Folds `file` into `next`; then, until a run leaves the bytes as they are, copies what is there to `current` and folds that into
@@ -27,14 +28,14 @@ fn repeat_over(file: &[u8], output: &mut [u8], current: &mut [u8], next: &mut [u
     let mut runs = 1;
     let mut steady = first.steady;
     while !steady {
-        bytes::copy(&next[..length], current);
+        copy(&next[..length], current);
         let r = fold_once(&current[..length], room, next);
         length = r.length;
         folds = folds + r.folds;
         runs = runs + 1;
         steady = r.steady;
     }
-    bytes::copy(&next[..length], output);
+    copy(&next[..length], output);
     SteadyAnswer::Written(length, folds, runs)
 }
 

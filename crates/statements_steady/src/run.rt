@@ -14,7 +14,7 @@ use statements_fold::tables::fold_records;
 
 // The number of the row that refuses the bytes, or 0; the result's length; the declarators folded; whether the result is the
 // bytes themselves.
-#[derive(Drop)]
+#[derive(Clone, Copy)]
 pub struct Run {
     pub number: u8,
     pub length: usize,

@@ -7,7 +7,7 @@ ghost use Rattle.walk_arms.specs.Arms.{planned};
 use records::layout::NodeId;
 use walk_arms::arms::{Plan, next_plan};
 
-#[derive(Drop)]
+#[derive(Clone, Copy)]
 pub struct Forest {
     pub next: NodeId, // where the first tree that is left begins
     pub trees: usize, // how many are left

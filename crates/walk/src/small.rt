@@ -85,7 +85,7 @@ fn has_one_child(nodes: &[u8], at: NodeId) -> bool
 
 // How many nodes a small tree has that is passed at once, a leaf or a node over one leaf; whether it has an effect, and the
 // looks at it. 0 nodes, if it isn't one.
-#[derive(Drop)]
+#[derive(Clone, Copy)]
 pub struct Small {
     pub nodes: usize,
     pub effect: bool,

@@ -35,7 +35,7 @@ use walk_reorder::member_part::{computed_key_blocks_reorder, member_part_blocks_
 use walk_reorder::unsettled::identifier_read_blocks_reorder;
 
 // The kinds of nodes by what the search does at them, each with the arms of the Rust's `match`.
-#[derive(Drop)]
+#[derive(Clone, Copy)]
 pub enum Shape {
     Constant, // a literal, FunctionExpression, Elision
     Identifier, // Identifier
@@ -177,7 +177,7 @@ fn is_compound_assignment(shape: Shape) -> bool
 }
 
 // Which children of a node are searched, each with the shapes that have it.
-#[derive(Drop)]
+#[derive(Clone, Copy)]
 pub enum Plan {
     All, // each, until one gives an answer: Steps, Chain, Import, Sequence, Property; Logical and Optional; behind a target
     First, // the first alone: Stopping; Logical, Conditional and Optional, if the replacement has an effect
@@ -312,7 +312,7 @@ pub fn may_depend_on_side_effect(file: &[u8], nodes: &[u8], at: NodeId, n: NodeR
 }
 
 // Where the search of a node's children begins.
-#[derive(Drop)]
+#[derive(Clone, Copy)]
 pub struct Begun {
     pub shape: Shape,
     pub next: NodeId, // the first child that isn't passed before the search

@@ -2,7 +2,7 @@
 // `replacement_has_side_effect` of `substitute_single_use_symbol_in_expression` (src/peephole/minimize_statements.rs 1277-1283).
 use records::layout::NameId;
 
-#[derive(Drop)]
+#[derive(Clone, Copy)]
 pub struct Replacement {
     pub name: NameId, // `search_for`
     pub effect: bool, // `replacement_has_side_effect`

@@ -8,7 +8,7 @@ use records::layout::NodeId;
 
 // Some(true), Some(false), None of the Rust. Replaced: where the name stands, and whether it is a tag that stays indirect.
 // Stopped: not replaced, and the search ends. Passed: not replaced, and it goes on; whether the trees have an effect.
-#[derive(Drop)]
+#[derive(Clone, Copy)]
 pub enum Answer {
     Replaced(NodeId, bool),
     Stopped,
@@ -16,7 +16,7 @@ pub enum Answer {
 }
 
 // The answer, where the trees end (unless replaced), and the looks.
-#[derive(Drop)]
+#[derive(Clone, Copy)]
 pub struct Walked {
     pub answer: Answer,
     pub end: NodeId,

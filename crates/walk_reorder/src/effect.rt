@@ -24,7 +24,7 @@ pub fn has_effect(n: NodeRecord) -> bool
 }
 
 // Trees that are passed: the node behind them, and whether one of them has an effect.
-#[derive(Drop)]
+#[derive(Clone, Copy)]
 pub struct PassedForest {
     pub next: NodeId,
     pub effect: bool,

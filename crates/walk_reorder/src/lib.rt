@@ -1,4 +1,6 @@
 // What may not change places with another step: effects, unsettled names, the parts of a member.
+#![tactic(auto)]
+
 pub mod effect;
 pub mod member_part;
 pub mod unsettled;

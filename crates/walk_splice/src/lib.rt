@@ -1,6 +1,8 @@
 // Moves the replacement in the work table to the place of the name: what the Rust does by `replacement.take_in(ctx)` and
 // `ctx.replace_expression(target_expr, new_expr)`, that is `*target_expr = new_expr` (src/peephole/minimize_statements.rs
 // 1291-1295), and by `preserve_indirect_access` for a tag (1789-1793).
+#![tactic(auto)]
+
 mod blocks;
 mod rotate;
 mod shift;

@@ -5,6 +5,7 @@ ghost use Rattle.std.specs.Prelude.{◌+◌, ◌*◌, ◌<◌, ◌≤◌, length
 ghost use Rattle.walk_splice.specs.Blocks.{Exchanges};
 
 use crate::shift::{move_down, move_up, put_block};
+use records::copy::copy;
 use records::layout::NodeId;
 use records_table::WORK_LENGTH;
 
@@ -16,7 +17,7 @@ fn front_to_end(nodes: &mut [u8], aside: &mut [u8], first: NodeId, second: NodeI
     let start = WORK_LENGTH * first.0;
     let stop = WORK_LENGTH * second.0;
     let len = stop - start;
-    bytes::copy(&nodes[start..stop], aside);
+    copy(&nodes[start..stop], aside);
     move_down(nodes, first, second, end.0 - second.0);
     put_block(nodes, WORK_LENGTH * end.0 - len, &aside[..len]);
 }
@@ -29,7 +30,7 @@ fn end_to_front(nodes: &mut [u8], aside: &mut [u8], first: NodeId, second: NodeI
     let start = WORK_LENGTH * second.0;
     let stop = WORK_LENGTH * end.0;
     let len = stop - start;
-    bytes::copy(&nodes[start..stop], aside);
+    copy(&nodes[start..stop], aside);
     let to = NodeId(first.0 + (end.0 - second.0));
     move_up(nodes, to, first, second.0 - first.0);
     put_block(nodes, WORK_LENGTH * first.0, &aside[..len]);

@@ -4,6 +4,7 @@ ghost use Rattle.std.specs.Prelude.{◌+◌, ◌*◌, ◌≤◌, length};
 ghost use Rattle.records_table.specs.Overwrites.{Overwrites};
 ghost use Rattle.walk_splice.specs.Copies.{Copies};
 
+use records::copy::copy;
 use records::layout::NodeId;
 use records_table::WORK_LENGTH;
 
@@ -12,7 +13,7 @@ pub(crate) fn put_block(nodes: &mut [u8], at: usize, block: &[u8])
     requires room { at + length block.now ≤ length nodes.old }
     ensures written { Overwrites nodes.old nodes.new at block.now }
 {
-    bytes::copy(block, &mut nodes[at..]);
+    copy(block, &mut nodes[at..]);
 }
 
 // Writes the record of node `from` over that of node `to`, all its bytes at once.
@@ -23,7 +24,7 @@ fn copy_record(nodes: &mut [u8], to: NodeId, from: NodeId)
     let start = WORK_LENGTH * from.0;
     let end = start + WORK_LENGTH;
     let mut saved = [0u8; WORK_LENGTH];
-    bytes::copy(&nodes[start..end], &mut saved);
+    copy(&nodes[start..end], &mut saved);
     put_block(nodes, WORK_LENGTH * to.0, &saved);
 }
 

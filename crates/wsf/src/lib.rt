@@ -1,4 +1,6 @@
 // The fold of a record file, for C and Rust to call; each other call is in a module of its own.
+#![tactic(auto)]
+
 pub mod measure;
 pub mod steady;
 
@@ -12,7 +14,7 @@ use statements_fold::{FoldAnswer, fold};
 
 // The number of document 01's table that refuses the file, 0 where none does; the result's length; the declarators folded.
 #[repr(C)]
-#[derive(Drop)]
+#[derive(Clone, Copy)]
 pub struct WsfAnswer {
     pub number: u64,
     pub length: u64,

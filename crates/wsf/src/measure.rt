@@ -9,7 +9,7 @@ use statements_measure::{MeasureAnswer, measure};
 // The number of document 01's table that refuses the file, 0 where none of rows 1 to 10 does; the length of the result that
 // `wsf_fold` gives; the looks that it makes.
 #[repr(C)]
-#[derive(Drop)]
+#[derive(Clone, Copy)]
 pub struct WsfMeasure {
     pub number: u64,
     pub length: u64,

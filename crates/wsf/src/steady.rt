@@ -11,7 +11,7 @@ use statements_steady::{SteadyAnswer, fold_until_steady};
 // The number of document 01's table that refuses the file, 0 where none does; the last result's length; the declarators that all
 // runs folded; the runs, the last unchanged one counted.
 #[repr(C)]
-#[derive(Drop)]
+#[derive(Clone, Copy)]
 pub struct WsfSteady {
     pub number: u64,
     pub length: u64,

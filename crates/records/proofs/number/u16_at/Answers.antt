@@ -1,0 +1,7 @@
+use native.Mathlib.Omega.{arith}
+use Rattle.records.specs.Bytes.{u16_at}
+use Rattle.records.proofs.number.u16_at.Goals as goal
+
+pub returns : goal.returns
+unfolding u16_at
+returns c = record { result = omega arith }

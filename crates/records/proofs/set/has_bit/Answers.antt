@@ -1,0 +1,6 @@
+use native.Mathlib.Omega.{arith}
+use Rattle.records.proofs.Sets.{bit-inside}
+use Rattle.records.proofs.set.has_bit.Goals as goal
+
+pub returns : goal.returns
+returns c = record { result = bit-inside _ _ (omega (arith, c.requires.bit)) }

@@ -1,0 +1,17 @@
+use mathlib.Core.Path.{refl}
+use Prim.Native.Nat.{◌-◌, ◌*◌, ◌≤◌}
+use native.Mathlib.Omega.{arith}
+use lib.Dec.{eqb}
+use Rattle.records.specs.Record.{statement_at}
+use Rattle.records.specs.File.{one}
+use Rattle.records.specs.Script.{good_statement, declarator_sum}
+use Rattle.records.specs.Place.{expressions}
+use Rattle.records.specs.declared.layout.StatementRecord.{StatementRecord}
+use Rattle.records.proofs.Series.{Passed, passed_none, passed-more, passed-all, Summed, summed_none, summed_more, summed_all}
+use Rattle.records_tests.proofs.script.statement_totals.Given as goal
+
+abbrev pub invariant-loop-i : goal.invariant-loop-i
+invariant-loop-i l = Passed (λ k. good_statement) (statement_at l.file) 4 l.count l.from l.good l.i × Summed declarator_sum (statement_at l.file) 4 l.count l.from l.sum l.i × Summed expressions (statement_at l.file) 4 l.count l.from l.with_tree l.i × (l.sum ≤ 65535 * l.i) × (l.with_tree ≤ l.i)
+
+abbrev pub decreases-loop-i : goal.decreases-loop-i
+decreases-loop-i l = l.count - l.i
