@@ -6,6 +6,7 @@ use records::layout::{Header, StatementRecord, declarator_at, header_of, node_at
 use records::limits::{DECLARATOR_LENGTH, HEADER_LENGTH, NODE_LENGTH, STATEMENT_LENGTH};
 use records::number::{one, size};
 use records::parts::part_offsets;
+use std::io;
 
 // How many of the `count` declarators from `at` on have an initializer.
 fn initializers(output: &[u8], at: usize, count: usize) -> usize
@@ -60,23 +61,35 @@ fn nodes_of(output: &[u8], at: usize, trees: usize) -> usize
     nodes
 }
 
-fn print_totals(h: Header, folds: usize) {
-    program_lines::put(b"fold ", folds);
-    program_lines::put(b" statements ", size(h.statements));
-    program_lines::put(b" nodes ", size(h.nodes));
-    program_lines::end(b"");
+fn print_totals(rt: &impl Print, h: Header, folds: usize) -> io::Result<()> {
+    program_lines::put(rt, b"fold ", folds)?;
+    program_lines::put(rt, b" statements ", size(h.statements))?;
+    program_lines::put(rt, b" nodes ", size(h.nodes))?;
+    program_lines::end(rt, b"")
 }
 
-fn print_statement(number: usize, s: StatementRecord, nodes: usize) {
-    program_lines::put(b"s ", number);
-    program_lines::put(b" ", s.kind as usize);
-    program_lines::put(b" ", size(s.declarators));
-    program_lines::put(b" ", nodes);
-    program_lines::end(b"");
+fn print_statement(
+    rt: &impl Print,
+    number: usize,
+    s: StatementRecord,
+    nodes: usize,
+) -> io::Result<()> {
+    program_lines::put(rt, b"s ", number)?;
+    program_lines::put(rt, b" ", s.kind as usize)?;
+    program_lines::put(rt, b" ", size(s.declarators))?;
+    program_lines::put(rt, b" ", nodes)?;
+    program_lines::end(rt, b"")
 }
 
 // A line for each of `count` statements from `at` on; their nodes and declarators begin at the other two places.
-fn print_statements(output: &[u8], at: usize, count: usize, nodes: usize, declarators: usize)
+fn print_statements(
+    rt: &impl Print,
+    output: &[u8],
+    at: usize,
+    count: usize,
+    nodes: usize,
+    declarators: usize,
+) -> io::Result<()>
     requires statements { at + 4 * count ≤ length output.now }
     requires nodes { nodes ≤ length output.now }
     requires declarators { declarators ≤ length output.now }
@@ -88,26 +101,27 @@ fn print_statements(output: &[u8], at: usize, count: usize, nodes: usize, declar
         let s = statement_at(output, at + STATEMENT_LENGTH * i);
         let own = DECLARATOR_LENGTH * size(s.declarators);
         if output.len() - declarator < own {
-            return;
+            return Ok(());
         }
         let passed = nodes_of(output, node, trees_of(output, declarator, s));
-        print_statement(i, s, passed);
+        print_statement(rt, i, s, passed)?;
         node += NODE_LENGTH * passed;
         declarator += own;
         i += 1;
     }
+    Ok(())
 }
 
 // The totals, then a line for each statement. A header whose counts reach behind the output gets no line.
-pub fn print_result(output: &[u8], folds: usize) {
+pub fn print_result(rt: &impl Print, output: &[u8], folds: usize) -> io::Result<()> {
     if output.len() < HEADER_LENGTH {
-        return;
+        return Ok(());
     }
     let h = header_of(output);
     let parts = part_offsets(h);
     if output.len() < parts[6] {
-        return;
+        return Ok(());
     }
-    print_totals(h, folds);
-    print_statements(output, parts[5], size(h.statements), parts[3], parts[4]);
+    print_totals(rt, h, folds)?;
+    print_statements(rt, output, parts[5], size(h.statements), parts[3], parts[4])
 }

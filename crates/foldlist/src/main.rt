@@ -6,23 +6,25 @@ mod list;
 
 use list::print_result;
 use statements_fold::{FoldAnswer, fold};
+use std::io;
+use std::io::Read;
 
-fn report(file: &[u8], output: &mut [u8]) {
+fn report(rt: &impl Print, file: &[u8], output: &mut [u8]) -> io::Result<()> {
     let outcome = fold(file, output);
     match outcome {
         FoldAnswer::Refused(number) => {
-            program_lines::put(b"refused ", number as usize);
-            program_lines::end(b"");
+            program_lines::put(rt, b"refused ", number as usize)?;
+            program_lines::end(rt, b"")
         }
-        FoldAnswer::Written(_, folds) => print_result(output, folds),
+        FoldAnswer::Written(_, folds) => print_result(rt, output, folds),
     }
 }
 
 // No accepted file is longer than 42,248 bytes, nor wants more room: of a longer input the first 65,536 get the number of
 // the whole.
-fn main() {
-    let mut file = io::large_buffer();
-    let mut output = io::large_buffer();
-    let n = io::read_full(0, &mut file);
-    report(&file[..n], &mut output);
+fn main(rt: HostRuntime) -> io::Result<()> {
+    let mut file = Vec::new(rt.alloc());
+    let mut output = vec![in rt.alloc(); 0; 65536]?;
+    rt.reader().take(65536).read_to_end(&mut file)?;
+    report(&rt, &file, &mut output)
 }

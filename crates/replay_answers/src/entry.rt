@@ -1,9 +1,11 @@
 // The entries of a list of answers.
-ghost use Rattle.std.specs.Prelude.{◌+◌, ◌≤◌, length};
+ghost use Rattle.std.specs.Prelude.{◌+◌, ◌≤◌, length, IfOk};
 
-use crate::segment::fill;
+use crate::segment::{fill, read_whole};
 use records::copy::copy;
 use records::number::u32_at;
+use std::io;
+use std::io::Read;
 
 pub(crate) fn number_at(bytes: &[u8], at: usize) -> usize
     requires room { at + 4 ≤ length bytes.now }
@@ -109,33 +111,46 @@ fn entry_of(head: &[u8; 40]) -> Entry
 
 // So many bytes to the start of `to`: those at the start of `from` where the number at this place of the head says that they are
 // the same, else the next segments of the list; false if the list doesn't have them.
-fn fill_or_copy(head: &[u8; 40], place: usize, from: &[u8], to: &mut [u8], count: usize) -> bool
+fn fill_or_copy(
+    reader: &mut impl Read,
+    head: &[u8; 40],
+    place: usize,
+    from: &[u8],
+    to: &mut [u8],
+    count: usize,
+) -> io::Result<bool>
     requires place { place + 4 ≤ 40 }
     requires from { count ≤ length from.now }
     requires to { count ≤ length to.old }
 {
     if number_at(head, place) == SAME {
         copy(&from[..count], to);
-        return true;
+        return Ok(true);
     }
-    fill(to, count)
+    fill(reader, to, count)
 }
 
 // Reads the next entry: its file, the fold's result and the repeat's, each to the start of its buffer.
-pub fn read_entry(head: &mut [u8; 40], file: &mut [u8], res: &mut [u8], steady: &mut [u8]) -> Entry
+pub fn read_entry(
+    reader: &mut impl Read,
+    head: &mut [u8; 40],
+    file: &mut [u8],
+    res: &mut [u8],
+    steady: &mut [u8],
+) -> io::Result<Entry>
     requires file { 65536 ≤ length file.old }
     requires res { 65536 ≤ length res.old }
     requires steady { 65536 ≤ length steady.old }
-    ensures room { result.room ≤ 65536 }
-    ensures length { result.length ≤ 65536 }
-    ensures result_length { result.result ≤ 65536 }
-    ensures steady_length { result.steady ≤ 65536 }
+    ensures room { IfOk result (λ e. e.room ≤ 65536) }
+    ensures length { IfOk result (λ e. e.length ≤ 65536) }
+    ensures result_length { IfOk result (λ e. e.result ≤ 65536) }
+    ensures steady_length { IfOk result (λ e. e.steady ≤ 65536) }
 {
-    let whole = HEAD_LENGTH <= io::read_full(0, head);
+    let whole = read_whole(reader, head)?;
     let mut e = entry_of(head);
-    let filled = fill(file, e.length);
-    let results = fill_or_copy(head, 20, file, res, e.result);
-    let last = fill_or_copy(head, 32, res, steady, e.steady);
+    let filled = fill(reader, file, e.length)?;
+    let results = fill_or_copy(reader, head, 20, file, res, e.result)?;
+    let last = fill_or_copy(reader, head, 32, res, steady, e.steady)?;
     e.there = e.there & whole & filled & results & last;
-    e
+    Ok(e)
 }

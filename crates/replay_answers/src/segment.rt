@@ -2,6 +2,8 @@
 ghost use Rattle.std.specs.Prelude.{◌+◌, ◌≤◌, length};
 
 use crate::entry::number_at;
+use std::io;
+use std::io::{ErrorKind, Read};
 
 // Where `times` times so many bytes from `at` on end, as far as they end by `most`.
 fn segment_end(at: usize, bytes: usize, times: usize, most: usize) -> usize
@@ -32,31 +34,40 @@ fn repeat(buf: &mut [u8], at: usize, period: usize, end: usize)
     }
 }
 
+// Fills the buffer; false if the list ends before.
+pub fn read_whole(reader: &mut impl Read, buf: &mut [u8]) -> io::Result<bool> {
+    match reader.read_exact(buf) {
+        Ok(()) => Ok(true),
+        Err(e) if e.kind() == ErrorKind::UnexpectedEof => Ok(false),
+        Err(e) => Err(e),
+    }
+}
+
 // Reads segments to the start of `buf` until so many bytes are there; false if the list doesn't have them.
-pub fn fill(buf: &mut [u8], count: usize) -> bool
+pub fn fill(reader: &mut impl Read, buf: &mut [u8], count: usize) -> io::Result<bool>
     requires room { count ≤ length buf.old }
 {
     let mut head = [0u8; 8];
     let mut at = 0;
     while at < count {
-        if io::read_full(0, &mut head) < 8 {
-            return false;
+        if !read_whole(reader, &mut head)? {
+            return Ok(false);
         }
         let times = number_at(&head, 0);
         let bytes = number_at(&head, 4);
         if bytes == 0 {
-            return false;
+            return Ok(false);
         }
         if count - at < bytes {
-            return false;
+            return Ok(false);
         }
         let next = at + bytes;
-        if io::read_full(0, &mut buf[at..next]) < bytes {
-            return false;
+        if !read_whole(reader, &mut buf[at..next])? {
+            return Ok(false);
         }
         let end = segment_end(at, bytes, times, count);
         repeat(buf, next, bytes, end);
         at = end;
     }
-    true
+    Ok(true)
 }

@@ -13,70 +13,86 @@ use output::{other_bytes, prepare};
 use replay_answers::compare::compare;
 use replay_answers::entry::{Entry, HEAD_LENGTH, read_entry};
 use returned::{MeasuredNumbers, Replayed, Returned, measured_for, returned_for, steady_for};
+use std::io;
 use totals::AllTotals;
 
 // The fold of a file compared with its entry; `expected` is the result that the entry has.
 fn replay_fold(
+    rt: &impl Print,
     entry: usize,
     e: Entry,
     file: &[u8],
     expected: &[u8],
     output: &mut [u8],
-) -> Returned {
+) -> io::Result<Returned> {
     prepare(output);
     let is = returned_for(file, output);
-    compare(entry, b" number ", e.number, is.number);
-    compare(entry, b" folds ", e.folds, is.folds);
-    compare(entry, b" length ", expected.len(), is.length);
-    compare(entry, b" other bytes ", 0, other_bytes(output, expected));
-    is
+    compare(rt, entry, b" number ", e.number, is.number)?;
+    compare(rt, entry, b" folds ", e.folds, is.folds)?;
+    compare(rt, entry, b" length ", expected.len(), is.length)?;
+    compare(
+        rt,
+        entry,
+        b" other bytes ",
+        0,
+        other_bytes(output, expected),
+    )?;
+    Ok(is)
 }
 
 // The same of the repeat.
 fn replay_steady(
+    rt: &impl Print,
     entry: usize,
     e: Entry,
     file: &[u8],
     expected: &[u8],
     output: &mut [u8],
-) -> Returned {
+) -> io::Result<Returned> {
     prepare(output);
     let is = steady_for(file, output);
-    compare(entry, b" steady number ", e.number, is.number);
-    compare(entry, b" steady folds ", e.steady_folds, is.folds);
-    compare(entry, b" steady runs ", e.runs, is.runs);
-    compare(entry, b" steady length ", expected.len(), is.length);
+    compare(rt, entry, b" steady number ", e.number, is.number)?;
+    compare(rt, entry, b" steady folds ", e.steady_folds, is.folds)?;
+    compare(rt, entry, b" steady runs ", e.runs, is.runs)?;
+    compare(rt, entry, b" steady length ", expected.len(), is.length)?;
     compare(
+        rt,
         entry,
         b" steady other bytes ",
         0,
         other_bytes(output, expected),
-    );
-    is
+    )?;
+    Ok(is)
 }
 
 // The row that refuses a room, which measuring doesn't have.
 const ROOM_ROW: usize = 11;
 
 // What measuring a file gives, compared with its entry.
-fn replay_measure(entry: usize, e: Entry, file: &[u8]) -> MeasuredNumbers {
+fn replay_measure(
+    rt: &impl Print,
+    entry: usize,
+    e: Entry,
+    file: &[u8],
+) -> io::Result<MeasuredNumbers> {
     let is = measured_for(file);
     let number = if e.number == ROOM_ROW { 0 } else { e.number };
-    compare(entry, b" measured number ", number, is.number);
-    compare(entry, b" measured length ", e.measured, is.length);
-    compare(entry, b" looks ", e.looks, is.looks);
-    is
+    compare(rt, entry, b" measured number ", number, is.number)?;
+    compare(rt, entry, b" measured length ", e.measured, is.length)?;
+    compare(rt, entry, b" looks ", e.looks, is.looks)?;
+    Ok(is)
 }
 
 // All three, with the file, the results and the output at the start of buffers.
 fn replay_in(
+    rt: &impl Print,
     entry: usize,
     e: Entry,
     file: &[u8],
     res: &[u8],
     steady: &[u8],
     output: &mut [u8],
-) -> Replayed
+) -> io::Result<Replayed>
     requires file { e.length ≤ length file.now }
     requires res { e.result ≤ length res.now }
     requires steady { e.steady ≤ length steady.now }
@@ -87,45 +103,48 @@ fn replay_in(
     let steady_end = e.steady;
     let room = e.room;
     let fold = replay_fold(
+        rt,
         entry,
         e,
         &file[..end],
         &res[..result_end],
         &mut output[..room],
-    );
+    )?;
     let steady = replay_steady(
+        rt,
         entry,
         e,
         &file[..end],
         &steady[..steady_end],
         &mut output[..room],
-    );
-    let measure = replay_measure(entry, e, &file[..end]);
-    Replayed {
+    )?;
+    let measure = replay_measure(rt, entry, e, &file[..end])?;
+    Ok(Replayed {
         fold,
         steady,
         measure,
-    }
+    })
 }
 
-fn main() {
+fn main(rt: HostRuntime) -> io::Result<()> {
+    let mut reader = rt.reader();
     let mut head = [0u8; HEAD_LENGTH];
-    let mut file = io::large_buffer();
-    let mut result = io::large_buffer();
-    let mut steady = io::large_buffer();
-    let mut output = io::large_buffer();
+    let mut file = [0u8; 65536];
+    let mut result = [0u8; 65536];
+    let mut steady = [0u8; 65536];
+    let mut output = [0u8; 65536];
     let mut totals = AllTotals::new();
     let mut entry = 0;
     while entry < 1000000 {
-        let e = read_entry(&mut head, &mut file, &mut result, &mut steady);
+        let e = read_entry(&mut reader, &mut head, &mut file, &mut result, &mut steady)?;
         if !e.there {
             break;
         }
-        let is = replay_in(entry, e, &file, &result, &steady, &mut output);
+        let is = replay_in(&rt, entry, e, &file, &result, &steady, &mut output)?;
         totals = totals.with(is);
         entry += 1;
     }
-    program_lines::put(b"entries ", entry);
-    program_lines::end(b"");
-    totals.print();
+    program_lines::put(&rt, b"entries ", entry)?;
+    program_lines::end(&rt, b"")?;
+    totals.print(&rt)
 }

@@ -1,6 +1,7 @@
 // What is counted over all entries.
 use crate::returned::{MeasuredNumbers, Replayed, Returned};
 use records::number::one;
+use std::io;
 
 #[derive(Clone, Copy)]
 struct ReplayTotals {
@@ -39,12 +40,12 @@ impl ReplayTotals {
     }
 
     // A line that begins with these words.
-    pub fn print(self, what: &[u8]) {
-        program_lines::put(what, self.accepted);
-        program_lines::put(b" folds ", self.folds);
-        program_lines::put(b" runs ", self.runs);
-        program_lines::put(b" bytes ", self.bytes);
-        program_lines::end(b"");
+    pub fn print(self, rt: &impl Print, what: &[u8]) -> io::Result<()> {
+        program_lines::put(rt, what, self.accepted)?;
+        program_lines::put(rt, b" folds ", self.folds)?;
+        program_lines::put(rt, b" runs ", self.runs)?;
+        program_lines::put(rt, b" bytes ", self.bytes)?;
+        program_lines::end(rt, b"")
     }
 }
 
@@ -72,11 +73,11 @@ impl MeasureTotals {
         }
     }
 
-    pub fn print(self) {
-        program_lines::put(b"measured ", self.measured);
-        program_lines::put(b" bytes ", self.bytes);
-        program_lines::put(b" looks ", self.looks);
-        program_lines::end(b"");
+    pub fn print(self, rt: &impl Print) -> io::Result<()> {
+        program_lines::put(rt, b"measured ", self.measured)?;
+        program_lines::put(rt, b" bytes ", self.bytes)?;
+        program_lines::put(rt, b" looks ", self.looks)?;
+        program_lines::end(rt, b"")
     }
 }
 
@@ -105,9 +106,9 @@ impl AllTotals {
     }
 
     // A line for each call.
-    pub fn print(self) {
-        self.folds.print(b"fold: accepted ");
-        self.repeats.print(b"until steady: accepted ");
-        self.measures.print();
+    pub fn print(self, rt: &impl Print) -> io::Result<()> {
+        self.folds.print(rt, b"fold: accepted ")?;
+        self.repeats.print(rt, b"until steady: accepted ")?;
+        self.measures.print(rt)
     }
 }

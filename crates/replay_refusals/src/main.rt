@@ -10,6 +10,8 @@ use records_refusal::check::refusal;
 use records_refusal::outcome::number_of;
 use replay_answers::compare::compare;
 use replay_answers::entry::{HEAD_LENGTH, read_entry};
+use std::io;
+use std::io::Read;
 
 // The number for the file of so many bytes at the start of a buffer.
 fn number_for(buf: &[u8], end: usize, room: usize) -> u8
@@ -20,48 +22,53 @@ fn number_for(buf: &[u8], end: usize, room: usize) -> u8
 
 // The next entry of the list; false at its end.
 fn replay(
+    rt: &impl Print,
+    reader: &mut impl Read,
     entry: usize,
     head: &mut [u8; 40],
     file: &mut [u8],
     res: &mut [u8],
     steady: &mut [u8],
     counts: &mut [usize; 12],
-) -> bool
+) -> io::Result<bool>
     requires file { 65536 ≤ length file.old }
     requires res { 65536 ≤ length res.old }
     requires steady { 65536 ≤ length steady.old }
 {
-    let e = read_entry(head, file, res, steady);
+    let e = read_entry(reader, head, file, res, steady)?;
     if !e.there {
-        return false;
+        return Ok(false);
     }
     let is = number_for(file, e.length, e.room);
     tally::add(counts, is);
-    compare(entry, b" number ", e.number, is as usize);
-    true
+    compare(rt, entry, b" number ", e.number, is as usize)?;
+    Ok(true)
 }
 
-fn main() {
+fn main(rt: HostRuntime) -> io::Result<()> {
+    let mut reader = rt.reader();
     let mut head = [0u8; HEAD_LENGTH];
-    let mut file = io::large_buffer();
-    let mut result = io::large_buffer();
-    let mut steady = io::large_buffer();
+    let mut file = [0u8; 65536];
+    let mut result = [0u8; 65536];
+    let mut steady = [0u8; 65536];
     let mut counts = [0usize; 12];
     let mut entry = 0;
     while entry < 1000000 {
         if !replay(
+            &rt,
+            &mut reader,
             entry,
             &mut head,
             &mut file,
             &mut result,
             &mut steady,
             &mut counts,
-        ) {
+        )? {
             break;
         }
         entry += 1;
     }
-    program_lines::put(b"files ", entry);
-    program_lines::end(b"");
-    tally::print(&counts);
+    program_lines::put(&rt, b"files ", entry)?;
+    program_lines::end(&rt, b"")?;
+    tally::print(&rt, &counts)
 }

@@ -1,4 +1,5 @@
 // How many files got each number.
+use std::io;
 
 // One file more with this number.
 pub fn add(counts: &mut [usize; 12], number: u8) {
@@ -11,12 +12,13 @@ pub fn add(counts: &mut [usize; 12], number: u8) {
 }
 
 // A line for each number.
-pub fn print(counts: &[usize; 12]) {
+pub fn print(rt: &impl Print, counts: &[usize; 12]) -> io::Result<()> {
     let mut k = 0;
     while k < 12 {
-        program_lines::put(b"number ", k);
-        program_lines::put(b": ", counts[k]);
-        program_lines::end(b"");
+        program_lines::put(rt, b"number ", k)?;
+        program_lines::put(rt, b": ", counts[k])?;
+        program_lines::end(rt, b"")?;
         k += 1;
     }
+    Ok(())
 }
