@@ -1,0 +1,16 @@
+use native.Mathlib.Omega.{arith}
+use Prim.Native.Nat.{◌-◌}
+use lib.ListN.{get_or}
+use Rattle.records.specs.Record.{name_at}
+use Rattle.records.specs.Count.{good_counts}
+use Rattle.records.proofs.Series.{Passed, passed_none, passed-more, passed-all}
+use Rattle.records_rows.proofs.count.counts_are_good.Goals as goal
+
+pub loop-i-init : goal.loop-i-init
+loop-i-init c = passed_none
+
+pub loop-i-preserved : goal.loop-i-preserved
+loop-i-preserved c = passed-more c.name_at.result c.count_is_good-good.result c.loop-i.invariant c.loop-i-test.true c.name_at.ensures.result c.count_is_good-good.ensures.result
+
+pub returns : goal.returns
+returns c = record { result = passed-all c.loop-i.invariant c.loop-i-test.false }

@@ -1,0 +1,15 @@
+use mathlib.Core.Path.{sym, ◌∙◌}
+use mathlib.Core.Bool.{and-true}
+use Prim.Native.Nat.{◌-◌}
+use native.Mathlib.Omega.{arith}
+use native.Mathlib.Nat.{one-mul}
+use Rattle.records.specs.Records.{records_from, every_from}
+use Rattle.records.proofs.Series.{Passed, passed_none, passed-more, passed-all}
+use Rattle.records_rows.specs.Stack.{entry_at, root_stands}
+use Rattle.records_rows.proofs.place.roots_stand.Given as goal
+
+abbrev pub invariant-loop-i : goal.invariant-loop-i
+invariant-loop-i l = Passed (λ k. root_stands) (entry_at l.stack) 1 l.count l.top l.good l.i
+
+abbrev pub decreases-loop-i : goal.decreases-loop-i
+decreases-loop-i l = l.count - l.i
