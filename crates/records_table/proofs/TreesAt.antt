@@ -7,7 +7,7 @@ use lib.ListN.{length, drop}
 use lib.Seq.{drop_at}
 use Rattle.records.specs.Record.{node_at}
 use Rattle.records.specs.Records.{records_from, bytes_of}
-use Rattle.records.specs.Tree.{Tree, Trees, more, count, sizes, joined, firsts, preorders, forest_of}
+use Rattle.records.specs.Tree.{Tree, Trees, count, sizes, joined, firsts, preorders, forest_of}
 use Rattle.records.specs.File.{first_tree}
 use Rattle.records.specs.declared.layout.NodeRecord.{NodeRecord}
 use Rattle.records_laws.proofs.Forests.{firsts-joined}

@@ -1,0 +1,6 @@
+use mathlib.Core.Path.{sym}
+use Rattle.records_table.proofs.Standing.{node-again}
+use Rattle.records_table.proofs.record_at.Goals as goal
+
+pub returns : goal.returns
+returns c = record { result = sym (node-again c.args.s.now (λ i. (c.type_inv.s i).fits) c.args.at) }
