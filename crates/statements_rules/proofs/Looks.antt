@@ -1,7 +1,7 @@
 -- The searches of a fold, and their looks, for lists of every length. A tree is searched at most once, and at most once more after
 -- each fold into it; nodes and declarators together never grow, so a searched tree has at most M + D nodes; a search has no more
 -- looks than its tree has nodes. Assumes nothing.
-use Prim.Native.Nat.{ℕ, suc, ◌+◌, ◌*◌, ◌≤◌}
+use Prim.Native.Nat.{ℕ, ◌+◌, ◌*◌, ◌≤◌}
 use native.Mathlib.Nat.{suc-mul, mul-le-mul_right}
 use native.Mathlib.Omega.{arith}
 use mathlib.Core.Bool.{Bool, true, false, cond, ◌||◌}
@@ -16,7 +16,7 @@ use Rattle.walk_rules.specs.Looks.{looks_in_expression}
 use Rattle.walk_rules.proofs.Looks.{looks-most}
 use Rattle.walk_rules.proofs.Sizes.{Sized, sized}
 use Rattle.statements_rules.specs.Trace.{Traced, pure, ◌>>=◌, looked, folded}
-use Rattle.statements_rules.specs.Declarators.{is_unsearched, is_using, ends_search, Searched, FromDeclarators, after_answer, from_declarator, substitute_from_declarators, within_declarator, within_declarators, substitute_within_declaration}
+use Rattle.statements_rules.specs.Declarators.{is_unsearched, is_using, ends_search, FromDeclarators, after_answer, from_declarator, substitute_from_declarators, within_declarator, within_declarators, substitute_within_declaration}
 use Rattle.statements_rules.specs.Statements.{Kept, in_file_order, FromStatements, after_declarators, from_statement, from_statements, substitute_in_statement, in_initializer, in_first_declarator, fold_statement, fold_statements}
 use Rattle.statements_rules.specs.Fold.{fold_file, folded_file}
 use Rattle.statements_rules.specs.Searches.{searched_in, AtMost, sum, T, D, M, SearchLaws}
