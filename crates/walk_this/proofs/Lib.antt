@@ -1,4 +1,3 @@
--- The laws that the proofs of several functions cite: the search of frames, their values, the file's length.
+-- The laws that the proofs of several functions cite: the search of frames, the file's length.
 pub mod Searching
-pub mod Values
 pub mod Known
