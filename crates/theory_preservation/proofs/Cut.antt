@@ -40,10 +40,10 @@ module _ {Value Rest : Type 0} (f : File) (trace : List Fold) (m : Meaning Value
   pub cut-facts : Each (FoldKeeps f.names (cut_to f m) start) trace → FactsOfAll f trace (cut_to f m) start
   unfolding cut_to
   cut-facts keeps = record {
-    reads-hidden = λ a h x e s s' g. same_by (makes_read f x) (m.reads x s) (m.reads x s') m.undefined (λ k. facts.reads-hidden a h x k e s s' g);
-    chooses-hidden = λ a h x e s s' g. same_by (makes_choice f x) (m.chooses x s) (m.chooses x s') true (λ k. facts.chooses-hidden a h x k e s s' g);
-    acts-hidden = λ a h x e s s' g. alike-by (makes_act f x) a m.undefined s s' (m.acts x s) (m.acts x s') g (λ k. facts.acts-hidden a h x k e s s' g);
-    writes-hidden = λ a h x n e s s' w g. kept_by (makes_act f x) m.undefined w s s' (m.acts x s) (λ (z : Store Value Rest). z.names a ≡ s.names a) g refl (λ k q. facts.writes-hidden a h x k n e s s' w q);
+    reads_hidden = λ a h x e s s' g. same_by (makes_read f x) (m.reads x s) (m.reads x s') m.undefined (λ k. facts.reads_hidden a h x k e s s' g);
+    chooses_hidden = λ a h x e s s' g. same_by (makes_choice f x) (m.chooses x s) (m.chooses x s') true (λ k. facts.chooses_hidden a h x k e s s' g);
+    acts_hidden = λ a h x e s s' g. alike-by (makes_act f x) a m.undefined s s' (m.acts x s) (m.acts x s') g (λ k. facts.acts_hidden a h x k e s s' g);
+    writes_hidden = λ a h x n e s s' w g. kept_by (makes_act f x) m.undefined w s s' (m.acts x s) (λ (z : Store Value Rest). z.names a ≡ s.names a) g refl (λ k q. facts.writes_hidden a h x k n e s s' w q);
     settled-kept = λ a h x n e s s' w g. kept_by (makes_act f x) m.undefined w s s' (m.acts x s) (λ (z : Store Value Rest). z.names a ≡ s.names a) g refl (λ k q. facts.settled-kept a h x k n e s s' w q);
     this-kept = λ h x n s s' w g label flags.
         same_by (makes_read f (this_step {Value = Value} label flags)) (m.reads (this_step label flags) s') (m.reads (this_step label flags) s) m.undefined (λ i.

@@ -50,8 +50,8 @@ module _ {Value Rest : Type 0} (v : ℕ) (a : Value) where
 -- what the facts of a file say of such a name
 pub nothing_hidden : {Value Rest : Type 0} {f : File} {trace : List Fold} {m : Meaning Value Rest} {start : Store Value Rest} (v : ℕ) → FactsOfAll f trace m start → reads_stand f v ≡ true → writes_stand f v ≡ true → NothingHidden m v
 nothing_hidden {m = m} v facts r w = record {
-  reads = λ x e s a. facts.reads-hidden v r x e (set v a s) s (set_agrees v a s);
-  chooses = λ x e s a. facts.chooses-hidden v r x e (set v a s) s (set_agrees v a s);
-  acts = λ x n e s a. within-set v a (facts.acts-hidden v r x e (set v a s) s (set_agrees v a s)) (λ s' u h. facts.writes-hidden v w x n e (set v a s) s' u h ∙ set_here v a s);
-  binds = λ x e s a. facts.acts-hidden v r x e (set v a s) s (set_agrees v a s);
+  reads = λ x e s a. facts.reads_hidden v r x e (set v a s) s (set_agrees v a s);
+  chooses = λ x e s a. facts.chooses_hidden v r x e (set v a s) s (set_agrees v a s);
+  acts = λ x n e s a. within-set v a (facts.acts_hidden v r x e (set v a s) s (set_agrees v a s)) (λ s' u h. facts.writes_hidden v w x n e (set v a s) s' u h ∙ set_here v a s);
+  binds = λ x e s a. facts.acts_hidden v r x e (set v a s) s (set_agrees v a s);
 }

@@ -40,7 +40,7 @@ eval_step = record { origin = of_node 14 0 1 value; hand = record { value = 0; b
 abbrev other_step : Step ℕ
 other_step = record { origin = of_other; hand = [] }
 
--- what `acts-hidden` asks of a step for v, where v is read
+-- what `acts_hidden` asks of a step for v, where v is read
 abbrev Alike : Step ℕ → Type 0
 Alike x = (s s' : Store ℕ Bench) → AgreeBut 0 s s' → ActsAlike 0 ((bench (resets true)).acts x s) ((bench (resets true)).acts x s')
 
@@ -68,7 +68,7 @@ other_not_alike : Alike other_step → ⊥
 unfolding is_free
 other_not_alike h = not_alike other_step refl h
 
--- So asked of every step `acts-hidden` isn't true of this meaning, for any file in which the reads of v all stand.
+-- So asked of every step `acts_hidden` isn't true of this meaning, for any file in which the reads of v all stand.
 too_many : ((x : Step ℕ) → through 0 x ≡ false → Alike x) → ⊥
 unfolding through_by
 too_many h = other_not_alike (h other_step refl)
@@ -103,11 +103,11 @@ makes_eval = refl
 
 pub other_not_met : (folds : List Fold) → Facts with_other folds (bench (resets true)) start → ⊥
 unfolding through_by
-other_not_met folds h = other_not_alike (h.acts-hidden 0 reads-stand.0 other_step makes-other refl)
+other_not_met folds h = other_not_alike (h.acts_hidden 0 reads-stand.0 other_step makes-other refl)
 
 pub eval_not_met : (folds : List Fold) → Facts with_eval folds (bench (resets true)) start → ⊥
 unfolding through_by
-eval_not_met folds h = eval_not_alike (h.acts-hidden 0 reads-stand.1 eval_step makes_eval refl)
+eval_not_met folds h = eval_not_alike (h.acts_hidden 0 reads-stand.1 eval_step makes_eval refl)
 
 -- Where v isn't read, a pattern and a kind 6 statement may set it, and every other name: "makes a marked step, which may also
 -- bind names".

@@ -270,10 +270,10 @@ module _ (free : Meaning ℕ Bench) (names : List NameFacts) (ss : List Statemen
 
   pub true_of : (folds : List Fold) → Each (FoldKeeps names (bench free) start) folds → Facts f folds (bench free) start
   true_of folds kept = record {
-    reads-hidden = λ a h x k e s s' g. reads-alike a x k s s' g;
-    chooses-hidden = λ a h x k e s s' g. chooses-alike a x k s s' g;
-    acts-hidden = λ a h x k e s s' g. acts-alike a x k s s' g;
-    writes-hidden = λ a h x k n e s s' w g. unwritten a x k n e s s' w g;
+    reads_hidden = λ a h x k e s s' g. reads-alike a x k s s' g;
+    chooses_hidden = λ a h x k e s s' g. chooses-alike a x k s s' g;
+    acts_hidden = λ a h x k e s s' g. acts-alike a x k s s' g;
+    writes_hidden = λ a h x k n e s s' w g. unwritten a x k n e s s' w g;
     settled-kept = λ a h x k n e s s' w g. unwritten a x k n e s s' w g;
     this-kept = λ h x k n s s' w g label flags i. this_fixed label flags s s';
     targets-kept = kept;

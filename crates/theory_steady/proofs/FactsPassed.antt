@@ -192,10 +192,10 @@ module _ (bytes : List ℕ) (room : ℕ) (e : refusal bytes room ≡ 0) (plain :
 
     pub facts-passed : (trace φs : List Fold) → Facts f trace m start → Each (FoldKeeps f.names m start) φs → Facts g φs m start
     facts-passed trace φs facts kept = record {
-      reads-hidden = λ a h x k. facts.reads-hidden a (reads-back a h) x (made-back (step false) x k);
-      chooses-hidden = λ a h x k. facts.chooses-hidden a (reads-back a h) x (made-back choice x k);
-      acts-hidden = λ a h x k. facts.acts-hidden a (reads-back a h) x (made-back (step true) x k);
-      writes-hidden = λ a h x k. facts.writes-hidden a (writes-back a h) x (made-back (step true) x k);
+      reads_hidden = λ a h x k. facts.reads_hidden a (reads-back a h) x (made-back (step false) x k);
+      chooses_hidden = λ a h x k. facts.chooses_hidden a (reads-back a h) x (made-back choice x k);
+      acts_hidden = λ a h x k. facts.acts_hidden a (reads-back a h) x (made-back (step true) x k);
+      writes_hidden = λ a h x k. facts.writes_hidden a (writes-back a h) x (made-back (step true) x k);
       settled-kept = λ a h x k. facts.settled-kept a (settled_back a h) x (made-back (step true) x k);
       this-kept = λ h x k n s s' w e label flags l. facts.this-kept (this-back h) x (made-back (step true) x k) n s s' w e label flags (made-back (step false) (this_step label flags) l);
       targets-kept = keeps-passed φs kept;

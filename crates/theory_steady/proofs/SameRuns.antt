@@ -66,10 +66,10 @@ declared-after (suc runs) f a e = declared-back f a (declared-after runs (fold_f
 
 first-facts : {Value Rest : Type 0} (f : File) (trace φs : List Fold) (m : Meaning Value Rest) (start : Store Value Rest) → Facts f trace m start → Each (FoldKeeps f.names m start) φs → Facts f φs m start
 first-facts f trace φs m start facts kept = record {
-  reads-hidden = facts.reads-hidden;
-  chooses-hidden = facts.chooses-hidden;
-  acts-hidden = facts.acts-hidden;
-  writes-hidden = facts.writes-hidden;
+  reads_hidden = facts.reads_hidden;
+  chooses_hidden = facts.chooses_hidden;
+  acts_hidden = facts.acts_hidden;
+  writes_hidden = facts.writes_hidden;
   settled-kept = facts.settled-kept;
   this-kept = facts.this-kept;
   targets-kept = kept;
