@@ -302,9 +302,9 @@ module _ (bs : List ℕ) (room : ℕ) (a : Passed bs room) where
   file_fine e = record {
     fits = file-fits;
     reads_in = λ x n. omega arith;
-    targets-in = λ x n. omega arith;
-    declared-in = λ x. omega arith;
-    this-in = λ h. unfold this_unblocked in some-sums (unblocked_at f) (all_trees f.statements) (let g = program-sums (λ t. one (somewhere (unblocked_at f) t)) f.statements in omega (arith, h, g));
+    targets_in = λ x n. omega arith;
+    declared_in = λ x. omega arith;
+    this_in = λ h. unfold this_unblocked in some-sums (unblocked_at f) (all_trees f.statements) (let g = program-sums (λ t. one (somewhere (unblocked_at f) t)) f.statements in omega (arith, h, g));
     no_evals = (let h = program-declarators (λ d. one (eval_whole f.names d.initializer)) f.statements in let g = no_evals f.names (all_declarators f.statements) (plain-file e) in omega (arith, h, g));
   }
     where

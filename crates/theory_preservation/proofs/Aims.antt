@@ -41,7 +41,7 @@ use Rattle.theory_preservation.proofs.ByKind.{other-kind}
 use Rattle.theory_preservation.proofs.Children.{Other, straight_why}
 
 module _ {Value Rest : Type 0} (σ : Setting Value Rest) where
-  open σ use {file, m, v, r, nothing_Hidden, there, unaimed, this-kept}
+  open σ use {file, m, v, r, nothing_hidden, there, unaimed, this-kept}
 
   abbrev S : Type 0
   S = State Value Rest
@@ -130,7 +130,7 @@ module _ {Value Rest : Type 0} (σ : Setting Value Rest) where
       let x₅ : Step Value = this_step n.label n.flags in
       let z : x ≡ x₅ = this-step n g in
       steady (λ u. record { value = m.reads x u; beside = beside names m.undefined leaf n [] }) (λ u. leaf-run n cs u e)
-      (λ a u. ap (λ w. record { value = w; beside = beside names m.undefined leaf n [] }) (nothing_Hidden.reads x (off-through v n value [] (λ q. clash (is 4 n) (other-kind n 5 4 g refl) q) (λ q. clash (is 29 n) (other-kind n 5 29 g refl) q) refl) u a))
+      (λ a u. ap (λ w. record { value = w; beside = beside names m.undefined leaf n [] }) (nothing_hidden.reads x (off-through v n value [] (λ q. clash (is 4 n) (other-kind n 5 4 g refl) q) (λ q. clash (is 29 n) (other-kind n 5 29 g refl) q) refl) u a))
       (ends-map (kept_by names m v there (λ u. m.reads x₅ u ≡ m.reads x₅ s.store) (λ y i q u u' w k p. this-kept h y i u u' w k n.label n.flags ∙ p) r unaimed value s refl)
       (λ y s' p. ap (λ w. record { value = w; beside = beside names m.undefined leaf n [] }) (ap (λ x. m.reads x s'.store) z ∙ p ∙ ap (λ x. m.reads x s.store) (sym z))) (λ s' p. tt) (λ p. p))
 
@@ -236,7 +236,7 @@ module _ {Value Rest : Type 0} (σ : Setting Value Rest) where
   member_why n cs e g c h (reading q k l) = c q
   member_why {s = s} n cs e g c h (steady ξ d i k) =
       steady (λ u. record { value = m.reads (step_of n target (ξ u)) u; beside = beside names m.undefined (stepping never) n (ξ u) }) (λ u. member-run n cs (ξ u.store) u e (d u))
-      (λ a u. rw (i a u, nothing_Hidden.reads (step_of n target (ξ u)) (g (ξ u)) u a))
+      (λ a u. rw (i a u, nothing_hidden.reads (step_of n target (ξ u)) (g (ξ u)) u a))
       (ends-map (ends_and k (ends-from (go r s) (λ x s' z. h x s' z _ _ s s' (member-run n cs (ξ s.store) s e (d s)) (member-run n cs (ξ s'.store) s' e (d s')))))
       (λ x s' p. λ j. record { value = sym p.1 j; beside = beside names m.undefined (stepping never) n (p.0 j) }) (λ s' p. tt) (λ p. p))
 
@@ -247,7 +247,7 @@ module _ {Value Rest : Type 0} (σ : Setting Value Rest) where
   aim_why : {s : S} (n : Node) (cs : S → O (List (Given Value))) → is_marked n ≡ false → through {Value = Value} v (step_of n target []) ≡ false → Same-value s (run_node names m target_name n target cs) → Why s (run_node names m target_name n target cs)
   aim_why {s = s} n cs e g h =
       steady (λ u. record { value = m.reads (step_of n target []) u; beside = beside names m.undefined target_name n [] }) (λ u. aim_run n cs u e)
-      (λ a u. rw (nothing_Hidden.reads (step_of n target []) g u a))
+      (λ a u. rw (nothing_hidden.reads (step_of n target []) g u a))
       (ends-from (go r s) (λ x s' z. ap (λ w. record { value = w; beside = beside names m.undefined target_name n [] }) (sym (h x s' z _ _ s s' (aim_run n cs s e) (aim_run n cs s' e)))))
 
   -- the forms of targets

@@ -45,7 +45,7 @@ lets optionally second = false
 lets optionally third = false
 
 module _ {Value Rest : Type 0} (σ : Setting Value Rest) where
-  open σ use {file, m, v, r, nothing_Hidden}
+  open σ use {file, m, v, r, nothing_hidden}
 
   abbrev S : Type 0
   S = State Value Rest
@@ -102,7 +102,7 @@ module _ {Value Rest : Type 0} (σ : Setting Value Rest) where
       → after_first m f n value cs x (moved (Put v a) s) ≡ bind (chosen (choice_of f) (choice_of_lem f n x s) cs (moved (Put v a) s)) (λ hs s'. gave (hand_of f n x ∷ hs) s')
   unfolding after_first
   moved-goes f n cs x s a (e, g) h =
-      let z : m.chooses (step_of n value (hand_of f n x ∷ [])) (moved (Put v a) s).store ≡ choice_of_lem f n x s = (unfold moved Put in (put_unseen {Rest = Rest} nothing_Hidden a).chooses (step_of n value (hand_of f n x ∷ [])) (off-through v n value (hand_of f n x ∷ []) e g (first_off v (hand_of f n x ∷ []) (kept_off v f n x.beside h))) s.store) in
+      let z : m.chooses (step_of n value (hand_of f n x ∷ [])) (moved (Put v a) s).store ≡ choice_of_lem f n x s = (unfold moved Put in (put_unseen {Rest = Rest} nothing_hidden a).chooses (step_of n value (hand_of f n x ∷ [])) (off-through v n value (hand_of f n x ∷ []) e g (first_off v (hand_of f n x ∷ []) (kept_off v f n x.beside h))) s.store) in
       rw z
 
   choose-goes : (f : Form) (n : Node) (cs : Turn → S → O (List (Given Value))) (x : Given Value) (s : S) → Other n → Off v x.beside → Unchanging σ
@@ -174,7 +174,7 @@ module _ {Value Rest : Type 0} (σ : Setting Value Rest) where
   straight-value f n t ts {s = s} e g y z = straight_why f n value t ts g (subst (λ ρ. Why s (run names m t ρ)) (sym e) y) z
 
   goes_framed : (f : Form) (n : Node) (ts : Trees) → Other n → all_reads v ts ≡ 0 → all_targets v ts ≡ 0 → (x : Given Value) → Off v x.beside → Framed σ (after_first m f n value (λ w s'. run_others names m ts w s') x)
-  goes_framed f n ts (e, i) h g x o a s = after_first-on names m v (Put v a) (put_unseen nothing_Hidden a) f n value _ x s e i o (λ w s'. free-others σ ts w h g a s')
+  goes_framed f n ts (e, i) h g x o a s = after_first-on names m v (Put v a) (put_unseen nothing_hidden a) f n value _ x s e i o (λ w s'. free-others σ ts w h g a s')
 
   -- r into the first child, or behind it
   into-first : (t t' : Tree) (ts : Trees) (f : Form) (n : Node) (s : S) → Other n → First-value f n → targets v t ≡ 0 → all_reads v ts ≡ 0 → all_targets v ts ≡ 0 → Searching f n t → P.Placed σ t t' s → D (F (run_children names m (more t ts) f n value) s) ≡ D (run_children names m (more t' ts) f n value s)

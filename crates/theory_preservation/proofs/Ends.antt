@@ -60,7 +60,7 @@ abbrev pub step_of : {Value : Type 0} → Node → Role → List (Given Value) �
 step_of n role hs = record { origin = origin_of n role; hand = hs }
 
 -- what is in hand when the children have run
-module _ {Value Rest : Type 0} {B : Beside Value → Type 0} {P : State Value Rest → Type 0} {Q : Type 0} where
+module _ {Value Rest : Type 0} (B : Beside Value → Type 0) {P : State Value Rest → Type 0} {Q : Type 0} where
   caught-ends : {o : Out Value Rest (List (Given Value))} → Ends (λ hs s. First B hs × P s) P Q o → Ends (λ hs s. First B hs × P s) P Q (caught o)
   unfolding caught
   caught-ends (gives h) = gives h
@@ -110,7 +110,7 @@ module _ {Value Rest : Type 0} (names : List NameFacts) (m : Meaning Value Rest)
 
       -- what every step of a tree's nodes keeps, its run keeps
       pub ends : (t : Tree) → H t → (role : Role) (s : State Value Rest) → P s → Given-ends (run names m t role s)
-      ends (node n ts) h role s p = ends-bind (gathered-ends (form (cleared n)) _ s p (ends-children ts (form (cleared n)) (cleared n) role (kids n ts h) s p)) (λ hs s' g. finished-ends n ts role hs s' h g.0 g.1)
+      ends (node n ts) h role s p = ends-bind (gathered-ends B (form (cleared n)) _ s p (ends-children ts (form (cleared n)) (cleared n) role (kids n ts h) s p)) (λ hs s' g. finished-ends n ts role hs s' h g.0 g.1)
 
       pub ends-children : (ts : Trees) (f : Form) (n : Node) (role : Role) → Hs ts → (s : State Value Rest) → P s → Hand-ends (run_children names m ts f n role s)
       ends-children none f n role h s p = gives (tt, p)

@@ -48,9 +48,9 @@ module _ (f : File) (P Q : List Statement) (move : StopAt (context_of f) P Q) (f
   stop-this : (b : Bool) → somewhere (unblocked_at f) move.new ≡ b → 1 ≤ unblocked_trees f Q → this_unblocked f ≡ true
   stop-this true e h =
       let g = either_same (somewhere (unblocked_at f) move.old) (some-turned (unblocked_at f) turned e) in
-      fine.this-in (let a = stop-trees_before move (λ t. one (somewhere (unblocked_at f) t)) in let d = one_of (somewhere (unblocked_at f) move.old) g in omega (arith, a, d))
+      fine.this_in (let a = stop-trees_before move (λ t. one (somewhere (unblocked_at f) t)) in let d = one_of (somewhere (unblocked_at f) move.old) g in omega (arith, a, d))
   stop-this false e h =
-      fine.this-in (let a = stop-trees_before move (λ t. one (somewhere (unblocked_at f) t)) in let d = stop_trees_behind move (λ t. one (somewhere (unblocked_at f) t)) in let k = one_none (somewhere (unblocked_at f) move.new) e in omega (arith, a, d, k, h))
+      fine.this_in (let a = stop-trees_before move (λ t. one (somewhere (unblocked_at f) t)) in let d = stop_trees_behind move (λ t. one (somewhere (unblocked_at f) t)) in let k = one_none (somewhere (unblocked_at f) move.new) e in omega (arith, a, d, k, h))
 
   -- the program with the tree that the search left is as fine
   pub stop_fine : Fine f Q
@@ -68,17 +68,17 @@ module _ (f : File) (P Q : List Statement) (move : StopAt (context_of f) P Q) (f
         let g = turned-reads move.name move.old (fit_parts f.names move.old fit-here).2 a e turned in
         let h = no_times (reads a move.old) in
         omega (arith, b, c, d, g, h);
-    targets-in = λ a e.
-        let b = fine.targets-in a e in
+    targets_in = λ a e.
+        let b = fine.targets_in a e in
         let c = stop-trees_before move (targets a) in
         let d = stop_trees_behind move (targets a) in
         let g = turned-targets move.name move.old (fit_parts f.names move.old fit-here).2 a e turned in
         let h = no_times (targets a move.old) in
         omega (arith, b, c, d, g, h);
-    declared-in = λ a. let b = fine.declared-in a in let c = stop-declared move a in omega (arith, b, c);
-    this-in = λ h. stop-this (somewhere (unblocked_at f) move.new) refl h;
-    no-evals =
-        let a = fine.no-evals in
+    declared_in = λ a. let b = fine.declared_in a in let c = stop-declared move a in omega (arith, b, c);
+    this_in = λ h. stop-this (somewhere (unblocked_at f) move.new) refl h;
+    no_evals =
+        let a = fine.no_evals in
         let b = stop-before move (λ d. one (eval_whole f.names d.initializer)) (λ t. 0) in
         let c = stop-behind move (λ d. one (eval_whole f.names d.initializer)) (λ t. 0) in
         let e = eval_there f.names move.place move.old move.new (λ g. eval_turned f.names move.name move.old fit-here turned g g) (omega (arith, a, b)) in
@@ -92,8 +92,8 @@ module _ (f : File) (P Q : List Statement) (move : DropAt (context_of f) P Q) (f
   drop_fine = record {
     fits = let a = fine.fits in let b = drop-sum move (of_initializer (misfit f.names)) (misfit f.names) in omega (arith, a, b);
     reads_in = λ a e. let b = fine.reads_in a e in let c = drop-sum move (of_initializer (reads a)) (reads a) in omega (arith, b, c);
-    targets-in = λ a e. let b = fine.targets-in a e in let c = drop-sum move (of_initializer (targets a)) (targets a) in omega (arith, b, c);
-    declared-in = λ a. let b = fine.declared-in a in let c = drop-sum move (declaring a) (λ t. 0) in omega (arith, b, c);
-    this-in = λ h. fine.this-in (let c = drop-sum move (of_initializer (λ t. one (somewhere (unblocked_at f) t))) (λ t. one (somewhere (unblocked_at f) t)) in omega (arith, h, c));
-    no-evals = let a = fine.no-evals in let b = drop-sum move (λ d. one (eval_whole f.names d.initializer)) (λ t. 0) in omega (arith, a, b);
+    targets_in = λ a e. let b = fine.targets_in a e in let c = drop-sum move (of_initializer (targets a)) (targets a) in omega (arith, b, c);
+    declared_in = λ a. let b = fine.declared_in a in let c = drop-sum move (declaring a) (λ t. 0) in omega (arith, b, c);
+    this_in = λ h. fine.this_in (let c = drop-sum move (of_initializer (λ t. one (somewhere (unblocked_at f) t))) (λ t. one (somewhere (unblocked_at f) t)) in omega (arith, h, c));
+    no_evals = let a = fine.no_evals in let b = drop-sum move (λ d. one (eval_whole f.names d.initializer)) (λ t. 0) in omega (arith, a, b);
   }

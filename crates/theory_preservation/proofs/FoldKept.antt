@@ -36,7 +36,7 @@ use Rattle.theory_preservation.proofs.Turned.{Turned, replaced-turned}
 use Rattle.theory_preservation.proofs.Counts.{turned-reads, turned-targets, found, one_time}
 use Rattle.theory_preservation.proofs.Places.{FreeBehind, fold-program}
 use Rattle.theory_preservation.proofs.Moves.{FoldAt}
-use Rattle.theory_preservation.proofs.Totals.{of_initializer, there, there-declared, declarations, program-uses, declaring}
+use Rattle.theory_preservation.proofs.Totals.{of_initializer, there-declared, declarations, program-uses, declaring}
 use Rattle.theory_preservation.proofs.Fine.{unblocked_trees, Accepted, Fine, searched-name, unblocked_at}
 use Rattle.theory_preservation.proofs.Fit.{fit, misfit, fit_parts, fit-turned, eval_turned, eval_there, misfit-none}
 use Rattle.theory_preservation.proofs.Declared.{free-behind, declared-found}
@@ -76,7 +76,7 @@ module _ (f : File) (P Q : List Statement) (φ : Fold) (move : FoldAt (context_o
       omega (arith, a, b)
 
   pub declared-there : declared f φ.name ≡ true
-  declared-there = declared-found v f.statements (let a = fine.declared-in v in let b = declared-here in omega (arith, a, b))
+  declared-there = declared-found v f.statements (let a = fine.declared_in v in let b = declared-here in omega (arith, a, b))
 
   pub known-name : (resolved names v ≡ true) × (is_eval (flags_of names v) ≡ false)
   known-name = accepted.known v asked-name.0 declared-there
@@ -94,7 +94,7 @@ module _ (f : File) (P Q : List Statement) (φ : Fold) (move : FoldAt (context_o
       let (b, c) = within-counts in
       let x = read-once in
       let k = fine.reads_in v (other_way v no_number e) in
-      let l = fine.targets-in v (other_way v no_number e) in
+      let l = fine.targets_in v (other_way v no_number e) in
       let a = fold-trees_before move (reads v) in
       let d = fold-trees_before move (targets v) in
       let p = program-uses name_read v f.statements in
@@ -113,7 +113,7 @@ module _ (f : File) (P Q : List Statement) (φ : Fold) (move : FoldAt (context_o
   fits-here = let a = fine.fits in let b = fold-trees_before move (misfit names) in (one-off (fit names t) (omega (arith, a, b)), one-off (fit names r) (omega (arith, a, b)))
 
   pub eval_here : eval_whole names (given r) ≡ false
-  eval_here = let a = fine.no-evals in let b = fold-before move (λ d. one (eval_whole names d.initializer)) (λ t. 0) in one_on (eval_whole names (given r)) (omega (arith, a, b))
+  eval_here = let a = fine.no_evals in let b = fold-before move (λ d. one (eval_whole names d.initializer)) (λ t. 0) in one_on (eval_whole names (given r)) (omega (arith, a, b))
 
   no_eval-here : (eqb (root r).kind 4 && is_eval (flags_of names (root r).label)) ≡ false
   no_eval-here = unfold eval_whole in eval_here
@@ -121,7 +121,7 @@ module _ (f : File) (P Q : List Statement) (φ : Fold) (move : FoldAt (context_o
   apart-here : (a : ℕ) → settled f a ≡ true → targets a r ≡ 0
   apart-here a e =
       let (x, y) = accepted.settled-unaimed a e in
-      let b = fine.targets-in a x in
+      let b = fine.targets_in a x in
       let c = fold-trees_before move (targets a) in
       let d = program-uses (λ n kids. target_name n) a f.statements in
       omega (arith, y, b, c, d)
@@ -141,14 +141,14 @@ module _ (f : File) (P Q : List Statement) (φ : Fold) (move : FoldAt (context_o
       well = (fit_parts names r fits-here.1).0;
       chained = (fit_parts names r fits-here.1).3;
       expression = (fit_parts names r fits-here.1).2;
-      no-eval = no_eval-here;
+      no_eval = no_eval-here;
       settled-kept = facts.settled-kept;
       apart = apart-here;
       this-kept = facts.this-kept;
     }
 
     this-known : ThisKnown setting t
-    this-known e = fine.this-in (let a = fold-trees_before move (λ t. one (somewhere (unblocked_at f) t)) in let b = one_of (somewhere (unblocked_at f) t) (unfold unblocked in e) in omega (arith, a, b))
+    this-known e = fine.this_in (let a = fold-trees_before move (λ t. one (somewhere (unblocked_at f) t)) in let b = one_of (somewhere (unblocked_at f) t) (unfold unblocked in e) in omega (arith, a, b))
 
     asked : Asked setting t
     asked = (let a = numbers.0 in omega (arith, a), numbers.4, (fit_parts names t fits-here.0).0, (fit_parts names t fits-here.0).1, this-known)
@@ -158,7 +158,7 @@ module _ (f : File) (P Q : List Statement) (φ : Fold) (move : FoldAt (context_o
         let a = numbers.2 in
         let b = numbers.6 in
         let c = accepted.once v asked-name.0 in
-        let d = fine.declared-in v in
+        let d = fine.declared_in v in
         let e = fold-before move (declaring v) (λ t. 0) in
         let g : ◌≡◌ {A = ℕ} (one (eqb v v)) 1 = rw (eq-eqb v v refl) in
         free-behind v move.place t move.after (omega (arith, a)) (omega (arith, b)) (omega (arith, c, d, e, g))
@@ -177,9 +177,9 @@ module _ (f : File) (P Q : List Statement) (φ : Fold) (move : FoldAt (context_o
   fold-this : (b : Bool) → somewhere (unblocked_at f) t' ≡ b → 1 ≤ unblocked_trees f Q → this_unblocked f ≡ true
   fold-this true e h =
       let a = fold-trees_before move (λ t. one (somewhere (unblocked_at f) t)) in
-      by_or (somewhere (unblocked_at f) t) (somewhere (unblocked_at f) r) (λ g. fine.this-in (let d = one_of (somewhere (unblocked_at f) t) g in omega (arith, a, d))) (λ g. fine.this-in (let d = one_of (somewhere (unblocked_at f) r) g in omega (arith, a, d))) (some-turned (unblocked_at f) turned e)
+      by_or (somewhere (unblocked_at f) t) (somewhere (unblocked_at f) r) (λ g. fine.this_in (let d = one_of (somewhere (unblocked_at f) t) g in omega (arith, a, d))) (λ g. fine.this_in (let d = one_of (somewhere (unblocked_at f) r) g in omega (arith, a, d))) (some-turned (unblocked_at f) turned e)
   fold-this false e h =
-      fine.this-in (let a = fold-trees_before move (λ t. one (somewhere (unblocked_at f) t)) in let d = fold_trees_behind move (λ t. one (somewhere (unblocked_at f) t)) in let k = one_none (somewhere (unblocked_at f) t') e in omega (arith, a, d, k, h))
+      fine.this_in (let a = fold-trees_before move (λ t. one (somewhere (unblocked_at f) t)) in let d = fold_trees_behind move (λ t. one (somewhere (unblocked_at f) t)) in let k = one_none (somewhere (unblocked_at f) t') e in omega (arith, a, d, k, h))
 
   -- it is as fine
   pub fold_fine : Fine f Q
@@ -197,17 +197,17 @@ module _ (f : File) (P Q : List Statement) (φ : Fold) (move : FoldAt (context_o
         let g = turned-reads v r (fit_parts names r fits-here.1).2 a e turned in
         let h = one_time (reads a r) in
         omega (arith, b, c, d, g, h);
-    targets-in = λ a e.
-        let b = fine.targets-in a e in
+    targets_in = λ a e.
+        let b = fine.targets_in a e in
         let c = fold-trees_before move (targets a) in
         let d = fold_trees_behind move (targets a) in
         let g = turned-targets v r (fit_parts names r fits-here.1).2 a e turned in
         let h = one_time (targets a r) in
         omega (arith, b, c, d, g, h);
-    declared-in = λ a. let b = fine.declared-in a in let c = fold-declared move a in omega (arith, b, c);
-    this-in = λ h. fold-this (somewhere (unblocked_at f) t') refl h;
-    no-evals =
-        let a = fine.no-evals in
+    declared_in = λ a. let b = fine.declared_in a in let c = fold-declared move a in omega (arith, b, c);
+    this_in = λ h. fold-this (somewhere (unblocked_at f) t') refl h;
+    no_evals =
+        let a = fine.no_evals in
         let b = fold-before move (λ d. one (eval_whole names d.initializer)) (λ t. 0) in
         let c = fold-behind move (λ d. one (eval_whole names d.initializer)) (λ t. 0) in
         let e = eval_there names move.place t t' (λ g. eval_turned names v r fits-here.1 turned eval_here g) (omega (arith, a, b)) in
@@ -218,7 +218,7 @@ module _ (f : File) (P Q : List Statement) (φ : Fold) (move : FoldAt (context_o
   pub gone : declarations φ.name Q ≡ 0
   gone =
       let c = accepted.once v asked-name.0 in
-      let d = fine.declared-in v in
+      let d = fine.declared_in v in
       let e = fold-before move (declaring v) (λ t. 0) in
       let g : ◌≡◌ {A = ℕ} (one (eqb v v)) 1 = rw (eq-eqb v v refl) in
       let h = fold-behind move (declaring v) (λ t. 0) in

@@ -14,7 +14,7 @@ use Rattle.theory_runs.specs.Step.{Role, value, Step}
 use Rattle.theory_runs.specs.Meaning.{Act, done, stops, Meaning}
 use Rattle.theory_runs.specs.Form.{is, cleared, is_marked, Choice, never, logical, conditional, optionally, Form, constant, name, target_name, leaf, chain, property, importing, sequence, assignment, stepping, form, childless, is_chain, choice_of, first_role}
 use Rattle.theory_runs.specs.State.{Log, State, Out, gave, cut, stop, bind}
-use Rattle.theory_runs.specs.Run.{Turn, all, skipped, second, third, takes, then, resolved, is_read, kept, listed, acted, caught, gathered, chosen, in_turn, stepped, queued, held, after_first, own, beside, finished, run_node, run, run_children, run_others}
+use Rattle.theory_runs.specs.Run.{Turn, all, skipped, second, third, takes, then, resolved, is_read, kept, listed, acted, caught, gathered, chosen, in_turn, stepped, queued, held, after_first, own, finished, run_node, run, run_children, run_others}
 use Rattle.theory_runs.specs.Facts.{through, is_of_node}
 use Rattle.theory_preservation.proofs.Words.{within}
 use Rattle.theory_preservation.proofs.Tables.{kinds_of, kinds}
@@ -143,7 +143,7 @@ module _ {Value Rest : Type 0} (names : List NameFacts) (m : Meaning Value Rest)
     pub frame : (t : Tree) → reads v t ≡ 0 → targets v t ≡ 0 → (role : Role) (s : State Value Rest) → run names m t role (moved φ s) ≡ shifted φ (run names m t role s)
     frame (node n ts) h g role s =
         rw (frame-children ts (form (cleared n)) (cleared n) role (off-read v n ts h) (off-target v n ts g) (omega arith) (omega arith) s, gathered-on φ (form (cleared n)) (run_children names m ts (form (cleared n)) (cleared n) role s) s)
-        (shifted-ends φ _ (gathered-ends (form (cleared n)) _ s tt (hand-off names m v ts (form (cleared n)) (cleared n) role (omega arith) s)) (λ hs s' p. finished_on (form (cleared n)) (cleared n) role hs s' (kinds (cleared n)) (off-read v n ts h) (off-target v n ts g) p.0))
+        (shifted-ends φ _ (gathered-ends _ (form (cleared n)) _ s tt (hand-off names m v ts (form (cleared n)) (cleared n) role (omega arith) s)) (λ hs s' p. finished_on (form (cleared n)) (cleared n) role hs s' (kinds (cleared n)) (off-read v n ts h) (off-target v n ts g) p.0))
 
     pub frame-children : (ts : Trees) (f : Form) (n : Node) (role : Role) → (is 4 n ≡ true → eqb n.label v ≡ false) → (is 29 n ≡ true → eqb n.label v ≡ false) → all_reads v ts ≡ 0 → all_targets v ts ≡ 0 → (s : State Value Rest) → run_children names m ts f n role (moved φ s) ≡ shifted φ (run_children names m ts f n role s)
     frame-children none f n role e i h g s = gave-on φ s

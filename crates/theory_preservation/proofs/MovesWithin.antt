@@ -125,7 +125,7 @@ module _ (Value : Type 0) (f : File) where
       let c : WithinDeclarators Value f move.kind (declarators_at p φ.into) = other-parts Value f (declarator-made Value f move.kind) d₀ (declarators_at p φ.into) e in
       let old : Within Value f value φ.into = place-tree move.kind p φ.into move.after (c, d) in
       let fits = fits-here f P Q φ move accepted fine in
-      let placeable : Placeable Value f φ.name φ.initializer = record { steps = r; expression = (fit_parts names φ.initializer fits.1).2; standing = (fit_parts names φ.initializer fits.1).0; no-eval = eval_here f P Q φ move accepted fine; plain = (known-name f P Q φ move accepted fine).1 } in
+      let placeable : Placeable Value f φ.name φ.initializer = record { steps = r; expression = (fit_parts names φ.initializer fits.1).2; standing = (fit_parts names φ.initializer fits.1).0; no_eval = eval_here f P Q φ move accepted fine; plain = (known-name f P Q φ move accepted fine).1 } in
       let new = replaced-within Value f φ.name φ.initializer (context_of f) φ.into move.tree (fit_parts names φ.into fits.0).0 move.placed placeable old in
       let (x, y) = place_other move.kind p φ.into move.tree move.after (c, d) new in (
         (subst (λ X. WithinProgram Value f X) (sym move.stood) (join Value f statement-made move.before (declaration move.kind move.earlier ∷ []) a (join-declaration move.kind move.earlier [] b (none_made Value f statement-made))), r, old),

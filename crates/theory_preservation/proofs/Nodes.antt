@@ -38,7 +38,7 @@ abbrev pub bared : {Value : Type 0} → Given Value → Given Value
 bared x = only x.value
 
 module _ {Value Rest : Type 0} (σ : Setting Value Rest) where
-  open σ use {file, m, v, r, nothing_Hidden, there, plain, free, unaimed, well, chained, expression, no-eval}
+  open σ use {file, m, v, r, nothing_hidden, there, plain, free, unaimed, well, chained, expression, no_eval}
 
   abbrev S : Type 0
   S = State Value Rest
@@ -99,7 +99,7 @@ module _ {Value Rest : Type 0} (σ : Setting Value Rest) where
   tidied : (b : Bool) (s : S) → is_member_tag r ≡ b → over (λ x. cond b (bared x) x) (go r s) ≡ over bared (go r s)
   unfolding over
   tidied true s e = refl
-  tidied false s e = ends_same (bare-run names m r well expression no-eval e value s) (λ x s' p. ap (λ y. gave y s') (bare-is x p))
+  tidied false s e = ends_same (bare-run names m r well expression no_eval e value s) (λ x s' p. ap (λ y. gave y s') (bare-is x p))
 
   value_only_r : (t : Tree) (s : S) → is_specific_id v (root t) ≡ true → over (value_only σ t) (go r s) ≡ over bared (go r s)
   unfolding value_only over
@@ -159,7 +159,7 @@ module _ {Value Rest : Type 0} (σ : Setting Value Rest) where
 
   run-place : (f : Form) (n : Node) (cs cs' : S → O (List (Given Value))) (s : S) → childless f ≡ false → kinds_of f n ≡ true → Other σ n → ((u : S) → Only Hand (cs u)) → D (F cs s) ≡ D (cs' s) → D (F (run_node names m f n value cs) s) ≡ D (run_node names m f n value cs' s)
   unfolding run_node gathered
-  run-place f n cs cs' s e k o i h = gather_place (childless f) (is_chain f) (finished names m f n value) cs cs' s e i (λ hs p a s'. finished_on names m v (Put v a) (put_unseen nothing_Hidden a) f n value hs s' k o.0 o.1 p) h
+  run-place f n cs cs' s e k o i h = gather_place (childless f) (is_chain f) (finished names m f n value) cs cs' s e i (λ hs p a s'. finished_on names m v (Put v a) (put_unseen nothing_hidden a) f n value hs s' k o.0 o.1 p) h
 
   hand-only : (ts : Trees) (f : Form) (n : Node) → all_targets v ts ≡ 0 → (s : S) → Only Hand (run_children names m ts f n value s)
   hand-only ts f n h s = ends-map (hand-off names m v ts f n value h s) (λ hs s' p. p.0) (λ s' p. tt) (λ p. p)

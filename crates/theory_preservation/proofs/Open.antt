@@ -32,7 +32,7 @@ use Rattle.theory_preservation.proofs.Setting.{Setting, settled-resolved}
 use Rattle.theory_preservation.proofs.Passing.{Put, put_unseen, Framed, worth, Unchanging, Reason, reading, steady, constant-unchanging, quiet-unchanging, one_reason, caught_reason}
 
 module _ {Value Rest : Type 0} (σ : Setting Value Rest) where
-  open σ use {file, m, v, r, nothing_Hidden, there, free, unaimed, settled-kept, apart}
+  open σ use {file, m, v, r, nothing_hidden, there, free, unaimed, settled-kept, apart}
 
   abbrev S : Type 0
   S = State Value Rest
@@ -47,10 +47,10 @@ module _ {Value Rest : Type 0} (σ : Setting Value Rest) where
   names = file.names
 
   pub free-frame : (t : Tree) → reads v t ≡ 0 → targets v t ≡ 0 → (role : Role) → Framed σ (run names m t role)
-  free-frame t h g role a s = frame names m v (Put v a) (put_unseen nothing_Hidden a) t h g role s
+  free-frame t h g role a s = frame names m v (Put v a) (put_unseen nothing_hidden a) t h g role s
 
   pub free-others : (ts : Trees) (w : Turn) → all_reads v ts ≡ 0 → all_targets v ts ≡ 0 → Framed σ (run_others names m ts w)
-  free-others ts w h g a s = frame-others names m v (Put v a) (put_unseen nothing_Hidden a) ts w h g s
+  free-others ts w h g a s = frame-others names m v (Put v a) (put_unseen nothing_hidden a) ts w h g s
 
   pub unchanging : may_have_side_effects r ≡ false → Unchanging σ
   unchanging e = quiet-unchanging σ e

@@ -87,7 +87,7 @@ module _ {Value Rest : Type 0} where
   only_same {P = P} φ o' e h = only_unshift φ o' (subst (λ x. Only P x) e (only_shift φ h))
 
 module _ {Value Rest : Type 0} (σ : Setting Value Rest) where
-  open σ use {file, m, v, r, nothing_Hidden, free, unaimed, well, chained}
+  open σ use {file, m, v, r, nothing_hidden, free, unaimed, well, chained}
 
   abbrev pub S : Type 0
   S = State Value Rest

@@ -58,7 +58,7 @@ is_nothing branches = false
 is_nothing tag = false
 
 module _ {Value Rest : Type 0} (σ : Setting Value Rest) where
-  open σ use {file, m, v, r, nothing_Hidden}
+  open σ use {file, m, v, r, nothing_hidden}
 
   abbrev pub S : Type 0
   S = State Value Rest

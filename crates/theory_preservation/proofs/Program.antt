@@ -44,7 +44,7 @@ FreeStatements v [] = Unit {0}
 FreeStatements v (s ∷ ss) = FreeStatement v s × FreeStatements v ss
 
 module _ {Value Rest : Type 0} (σ : Setting Value Rest) where
-  open σ use {file, m, v, nothing_Hidden}
+  open σ use {file, m, v, nothing_hidden}
 
   abbrev S : Type 0
   S = State Value Rest
@@ -107,7 +107,7 @@ module _ {Value Rest : Type 0} (σ : Setting Value Rest) where
 
   step-on : (x : Step Value) → through v x ≡ false → Alike (stepped m true x)
   unfolding stepped moved Put
-  step-on x e a s = acted-alike (listed x s.log) (nothing_Hidden.binds x e s.store a)
+  step-on x e a s = acted-alike (listed x s.log) (nothing_hidden.binds x e s.store a)
 
   binds-on : (k : DeclarationKind) (n : ℕ) (hs : List (Given Value)) → eqb n v ≡ false → Alike (binds m k n hs)
   unfolding binds through_by
@@ -134,7 +134,7 @@ module _ {Value Rest : Type 0} (σ : Setting Value Rest) where
   with_on AwaitUsing n w e = binds-on AwaitUsing n (only w ∷ []) e
 
   tree-on : (t : Tree) → FreeTree v t → Alike (run names m t value)
-  tree-on t (h, g) = framed_forgets σ (run names m t value) (λ a s. frame names m v (Put v a) (put_unseen nothing_Hidden a) t h g value s)
+  tree-on t (h, g) = framed_forgets σ (run names m t value) (λ a s. frame names m v (Put v a) (put_unseen nothing_hidden a) t h g value s)
 
   pub declarator-on : (k : DeclarationKind) (n : ℕ) (i : Initializer) → eqb n v ≡ false → FreeInitializer v i → Alike (run_declarator names m k n i)
   unfolding run_declarator

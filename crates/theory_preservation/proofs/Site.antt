@@ -69,7 +69,7 @@ module _ {Value Rest : Type 0} (names : List NameFacts) (m : Meaning Value Rest)
       ∙ ap (λ o. bind o (λ u s'. rest-run k es after s')) (sym (statements-append before (declaration k ds ∷ []) s ∙ bind-same (run_statements names m before s) _ _ (λ u s'. one-declaration k ds s')))
 
 module _ {Value Rest : Type 0} (σ : Setting Value Rest) where
-  open σ use {file, m, v, r, nothing_Hidden}
+  open σ use {file, m, v, r, nothing_hidden}
 
   abbrev S : Type 0
   S = State Value Rest

@@ -128,7 +128,7 @@ module _ (bytes : List ℕ) (room : ℕ) (e : refusal bytes room ≡ 0) (plain :
       let n : eqb no_number a ≡ false = ne_eqb no_number a (λ z. omega (arith, l, few)) in
       let c = (names-accepted bytes room rows).counts a r (rw u) in
       let i = result_fine.reads_in a n in
-      let j = result_fine.targets-in a n in
+      let j = result_fine.targets_in a n in
       let i₁ = program-uses name_read a f.statements in
       let i₂ = program-uses name_read a g.statements in
       let j₁ = program-uses (λ n kids. target_name n) a f.statements in
@@ -165,7 +165,7 @@ module _ (bytes : List ℕ) (room : ℕ) (e : refusal bytes room ≡ 0) (plain :
   this-back h =
       let x = sums-some (unblocked_at f) (all_trees g.statements) (unblocked-trees h) in
       let y = program-sums (λ t. one (somewhere (unblocked_at f) t)) g.statements in
-      result_fine.this-in (omega (arith, x, y))
+      result_fine.this_in (omega (arith, x, y))
 
   same_names : g.names ≡ f.names
   unfolding fold_file folded_file with_statements
@@ -175,7 +175,7 @@ module _ (bytes : List ℕ) (room : ℕ) (e : refusal bytes room ≡ 0) (plain :
   pub plain-result : shape_r g ≡ false
   unfolding shape_r
   plain-result =
-      let x = result_fine.no-evals in
+      let x = result_fine.no_evals in
       let y = program-declarators (λ d. one (eval_whole f.names d.initializer)) g.statements in
       subst (λ ns. some_eval ns (all_declarators g.statements) ≡ false) (sym same_names) (evals-none f.names (all_declarators g.statements) (omega (arith, x, y)))
 
