@@ -30,7 +30,7 @@ use Rattle.records_laws.proofs.PrintedTests.{printed_script, printed_version, pr
 use Rattle.records_laws.proofs.ReadFile.{read-declarators, read_header}
 use Rattle.theory_preservation.proofs.Uses.{reads, targets}
 use Rattle.theory_preservation.proofs.WellMade.{all_well_made}
-use Rattle.theory_preservation.proofs.Totals.{trees, program-uses, program-sums, program-declarators}
+use Rattle.theory_preservation.proofs.Totals.{program-uses, program-sums, program-declarators}
 use Rattle.theory_preservation.proofs.Moves.{file-moves}
 use Rattle.theory_preservation.proofs.Fit.{misfit}
 use Rattle.theory_demands.proofs.Rows.{few-names, good_counts_lem, file-fits, names-accepted}
