@@ -107,7 +107,7 @@ module _ (ctx : Context) {table : List ℕ} {at : ℕ} {n : NodeRecord} (e : n �
         record {
           shape_is = rw (node-is e h) sh;
           stops-is = st ∙ rw (node-is e h, ← sh) (no_target ctx R kids g.shape a);
-          indirect-is = i;
+          indirect_is = i;
           whole = refl;
           next-is = omega (arith, nx);
           many = l ∙ children_are e h;
@@ -176,7 +176,7 @@ module _ (ctx : Context) {table : List ℕ} {at : ℕ} {n : NodeRecord} (e : n �
         record {
           shape_is = rw (node-is e h) sh;
           stops-is = w R d _ none rest (inside h) (sym none-many) over.1 ∙ stops-assigned ctx R m c sm none;
-          indirect-is = i ∙ not_indirect ctx R m c sm none known.name.0;
+          indirect_is = i ∙ not_indirect ctx R m c sm none known.name.0;
           whole = refl;
           next-is = over.0;
           many = omega (arith, l, children_are e h);
@@ -196,7 +196,7 @@ module _ (ctx : Context) {table : List ℕ} {at : ℕ} {n : NodeRecord} (e : n �
         record {
           shape_is = rw (node-is e h) sh;
           stops-is = st ∙ stops-assigned ctx R m c sm (more t ts);
-          indirect-is = i ∙ not_indirect ctx R m c sm (more t ts) known.name.0;
+          indirect_is = i ∙ not_indirect ctx R m c sm (more t ts) known.name.0;
           whole = refl;
           next-is = omega (arith, over.0);
           many = omega (arith, l, children_are e h, one-many);

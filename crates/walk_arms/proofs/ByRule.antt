@@ -21,7 +21,7 @@ use Rattle.walk_arms.specs.Arms.{shaped, planned, is_assignment, KeepsCallee, Ke
 module _ (n child : NodeRecord) (known : Replacement) where
   pub callee_kept : KeepsCallee n child known ((eqb n.kind 14 || eqb n.kind 15) && known.member_or_chain && eqb child.kind 4)
   unfolding keeps_callee node_of
-  callee_kept replacement d kids q = rw (q, d.member-or-chain) refl
+  callee_kept replacement d kids q = rw (q, d.member_or_chain) refl
 
   pub indirect_kept : KeepsIndirect n child known (eqb n.kind 24 && is_specific_id known.name.0 (node_of child) && known.member_tag)
   unfolding keeps_indirect node_of

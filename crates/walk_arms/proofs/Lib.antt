@@ -4,4 +4,3 @@ pub mod Children
 pub mod Targets
 pub mod Beginning
 pub mod Looking
-pub mod Others
