@@ -1,0 +1,9 @@
+use native.Mathlib.Omega.{arith}
+use Rattle.statements_progress.proofs.Listing.{Listing, listing_begins, listing_on, listing_ends}
+use Rattle.statements_progress.proofs.folded.list_folded.Given as goal
+
+abbrev pub invariant-loop-last : goal.invariant-loop-last
+invariant-loop-last l = Listing l.declarators l.left l.many l.folds l.initial.folded l.folded l.last l.next
+
+abbrev pub decreases-loop-last : goal.decreases-loop-last
+decreases-loop-last l = l.last
