@@ -34,7 +34,7 @@ module _ {table : List ℕ} {at : ℕ} {n : NodeRecord} (child : NodeRecord) {ef
         record {
           effect = p pre (node m kids) rest h;
           literal = ap (λ x. is 1 x || is 2 x) q;
-          member-or-chain = rw k (ap (λ x. is_member_expression x || is 13 x) q);
+          member_or_chain = rw k (ap (λ x. is_member_expression x || is 13 x) q);
           member-tag = rw (k, i) (ap₂ (λ x y. is_member_expression x || is 13 x && is_member_expression y) q c);
         },
         refl,
