@@ -6,7 +6,7 @@ use native.Mathlib.Nat.{add-zero}
 use native.Mathlib.Omega.{arith}
 use borrow.Rule.Slice.PartMut.{mid_of}
 use lib.ListN.{length, take, drop, length-drop, take-append-drop, drop_of_length-le}
-use lib.Seq.{length-take-le, take-append-le, drop-append-le, take-take, drop-drop, take-add, drop_at, paste, take-paste, take-length, take_at, drop-paste}
+use lib.Seq.{length-take-le, take-append-le, drop-append-le, take-take, drop-drop, take-add, drop_at, paste, take-paste, take_at, drop-paste}
 use Rattle.records_table.specs.Overwrites.{Overwrites}
 use Rattle.walk_splice.specs.Copies.{Copies}
 
@@ -66,9 +66,9 @@ copied_up l l1 to from n k to' from' n' et ef en above fits e e' =
     e' ∙ rw (front, source, behind, more, en, take-add k n (drop from l), drop-drop k from l, ef) (simp append_assoc)
 
 -- a part that was copied to the start of a list
-module _ (at end : ℕ) (l old : List ℕ) {new : List ℕ} (below : at ≤ end) (fits : end ≤ length l) (e : let part = mid_of at (end - at) l in new ≡ take (length part) part ++ drop (length part) old) where
+module _ (at end : ℕ) (l old : List ℕ) {new : List ℕ} (below : at ≤ end) (fits : end ≤ length l) (e : let part = mid_of at (end - at) l in new ≡ part ++ drop (length part) old) where
   read : new ≡ take (end - at) (drop at l) ++ drop (end - at) old
-  read = e ∙ rw (take-length, length_part at (end - at) l (omega arith))
+  read = e ∙ rw (length_part at (end - at) l (omega arith))
 
   pub part_read : take (end - at) new ≡ take (end - at) (drop at l)
   part_read = ap (take (end - at)) read ∙ take_at (take (end - at) (drop at l)) (drop (end - at) old) (end - at) (length_part at (end - at) l (omega arith))

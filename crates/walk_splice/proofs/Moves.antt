@@ -1,11 +1,10 @@
 -- Blocks and records that are written, and a tag that moves for two of them. Assumes nothing.
-use mathlib.Core.Path.{◌≡◌, refl, ap, ◌∙◌}
+use mathlib.Core.Path.{◌≡◌, refl, ◌∙◌}
 use mathlib.Core.List.{List, ◌++◌, append_assoc}
 use Prim.Native.Nat.{ℕ, ◌+◌, ◌-◌}
 use native.Mathlib.Omega.{arith}
 use borrow.Rule.Slice.PartMut.{mid_of, put_mid}
-use lib.ListN.{length, take, drop, length-append}
-use lib.Seq.{take-length}
+use lib.ListN.{length, drop, length-append}
 use Rattle.records_table.specs.Table.{work_bytes}
 use Rattle.records_table.proofs.Laid.{work_length}
 use Rattle.records_table.specs.Overwrites.{Overwrites}
@@ -15,9 +14,9 @@ use Rattle.walk_splice.specs.Copies.{Copies}
 use Rattle.walk_splice.proofs.Rotation.{Blocks, left_over, left_over_length, shifted_up}
 
 -- a whole block, copied to a part from `at` on
-pub block_written : (at : ℕ) (bs block ys : List ℕ) → ys ≡ take (length block) block ++ drop (length block) (mid_of at (length bs - at) bs)
+pub block_written : (at : ℕ) (bs block ys : List ℕ) → ys ≡ block ++ drop (length block) (mid_of at (length bs - at) bs)
     → Overwrites bs (put_mid at (length bs - at) bs ys) at block
-block_written at bs block ys e = overwritten at (length block) bs block ys refl (rw take-length at e)
+block_written at bs block ys e = overwritten at (length block) bs block ys refl e
 
 -- a tag moves up by two records, over a name and one that is free, and two others are written in its place
 tag-moved : {b1 b2 b3 b4 : List ℕ} (a b position to n next : ℕ) (p tag name w s : List ℕ) → b1 ≡ (p ++ (tag ++ name)) ++ (w ++ s) → length p ≡ a → a + length tag ≡ b
