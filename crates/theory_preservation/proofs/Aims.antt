@@ -27,7 +27,7 @@ use Rattle.theory_runs.specs.State.{State, Out, gave, cut, stop, bind}
 use Rattle.theory_runs.specs.Run.{all, takes, then, resolved, is_read, gathered, in_turn, stepped, held, own, beside, finished, run_node, run, run_children, run_others}
 use Rattle.theory_runs.specs.Settled.{settled, this_blocks}
 use Rattle.theory_runs.specs.Shapes.{some_in, some_of}
-use Rattle.theory_runs.specs.Facts.{aims, through_by, through, this_unblocked, GivesSame, this_step}
+use Rattle.theory_runs.specs.Facts.{aims, through_by, through, this_unblocked, this_step}
 use Rattle.theory_preservation.proofs.Tests.{by_or, and_off, or_left, or_right}
 use Rattle.theory_preservation.proofs.Tables.{marked-cleared, name-form}
 use Rattle.theory_preservation.proofs.Ends.{Ends, gives, cuts, halts, ends-any, ends-map, ends_and, step_of}
@@ -36,7 +36,9 @@ use Rattle.theory_preservation.proofs.Kept.{kept_by}
 use Rattle.theory_preservation.proofs.Setting.{Setting}
 use Rattle.theory_preservation.proofs.Passing.{Unchanging, Reason, reading, steady, two-reasons}
 use Rattle.theory_preservation.proofs.WellMade.{well_made, all_well_made, well-node, well-more, named_in, one_child, two-children}
-use Rattle.theory_preservation.proofs.Open.{by-unchanging, by-constant, by-settled}
+use Rattle.theory_preservation.proofs.Open.{by-constant, by-settled}
+use Rattle.theory_preservation.proofs.Waiting.{by-unchanging}
+use Rattle.theory_preservation.proofs.BeforeAndAfter as B
 use Rattle.theory_preservation.proofs.ByKind.{other-kind}
 use Rattle.theory_preservation.proofs.Children.{Other, straight_why}
 
@@ -296,7 +298,7 @@ module _ {Value Rest : Type 0} (σ : Setting Value Rest) where
   as_aim {s = s} f n cs e g h k = subst (λ f. Same-value s (run_node names m f n target cs) → Why s (run_node names m f n target cs)) (sym e) (λ k. aim_why n cs g h k) k
 
   abbrev Same-given : S → Tree → Type 0
-  Same-given s t = (x : Given Value) (s' : S) → go r s ≡ gave x s' → GivesSame names m t s s'
+  Same-given s t = B.Same-given σ s t
 
   quiet-unchanging : {s : S} (t : Tree) → Quiet t → Unchanging σ → Why s (run names m t target)
   quiet-unchanging t (a, b, c, d, e) q = by-unchanging σ t target b c q d

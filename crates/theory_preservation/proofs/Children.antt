@@ -21,28 +21,11 @@ use Rattle.theory_preservation.proofs.Frame.{moved, shifted, gave-on, after_firs
 use Rattle.theory_preservation.proofs.Setting.{Setting}
 use Rattle.theory_preservation.proofs.Passing.{Put, put_unseen, bind-same, first, drop, Framed, Unchanging, Reason, unchanging-first, unchanging-drop, drop-only, drop-bind, first-bind, first-same, first-only, two-reasons}
 use Rattle.theory_preservation.proofs.Same.{hand_of, children-same}
-use Rattle.theory_preservation.proofs.Open.{free-others}
+use Rattle.theory_preservation.proofs.Waiting.{free-others}
 use Rattle.theory_preservation.proofs.Placing.{is_nothing, fairs_here, fair_head, fair_tail, value_only, value_only_value, go-off, place-first, place_rest}
 use Rattle.theory_preservation.proofs.Placing as P
-
--- the turns that a choice may lead to
-unfoldable pub lets : Choice → Turn → Bool
-lets never all = true
-lets never skipped = false
-lets never second = false
-lets never third = false
-lets logical all = true
-lets logical skipped = true
-lets logical second = false
-lets logical third = false
-lets conditional all = false
-lets conditional skipped = false
-lets conditional second = true
-lets conditional third = true
-lets optionally all = true
-lets optionally skipped = false
-lets optionally second = false
-lets optionally third = false
+use Rattle.theory_preservation.proofs.Turns.{lets, straight, choose}
+use Rattle.theory_preservation.proofs.Turns as T
 
 module _ {Value Rest : Type 0} (σ : Setting Value Rest) where
   open σ use {file, m, v, r, nothing_hidden}
@@ -72,10 +55,8 @@ module _ {Value Rest : Type 0} (σ : Setting Value Rest) where
   abbrev pub Other : Node → Type 0
   Other n = (is 4 n ≡ true → eqb n.label v ≡ false) × (is 29 n ≡ true → eqb n.label v ≡ false)
 
-  -- what a plan needs of the choice
-  pub data Turns (p : Plan) (f : Form) : Type 0 where
-    straight : choice_of f ≡ never → P.Meant σ (next p) all → Turns p f
-    choose : Unchanging σ → ((w : Turn) → lets (choice_of f) w ≡ true → P.Meant σ (next p) w) → Turns p f
+  abbrev Turns : Plan → Form → Type 0
+  Turns p f = T.Turns σ p f
 
   pub straight-goes : (f : Form) (n : Node) (role : Role) (cs : Turn → S → O (List (Given Value))) (x : Given Value) (s : S) → choice_of f ≡ never → after_first m f n role cs x s ≡ bind (cs all s) (λ hs s'. gave (hand_of f n x ∷ hs) s')
   unfolding after_first

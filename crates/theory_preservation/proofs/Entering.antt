@@ -21,6 +21,7 @@ use Rattle.theory_runs.specs.Form.{is, cleared, is_delete, Form, chain, property
 use Rattle.theory_runs.specs.Run.{kept}
 use Rattle.theory_preservation.proofs.Tests.{and_off, and_on, and_mid, same_cond}
 use Rattle.theory_preservation.proofs.Tables.{choosing, form_of, shape_kinds}
+use Rattle.theory_preservation.proofs.Entered as E
 use Rattle.theory_preservation.proofs.ByKind.{other-kind, link_not, stopping_not, chain_child}
 
 undelete : (n : Node) → is 9 n ≡ false → is_delete (cleared n) ≡ false
@@ -49,17 +50,11 @@ unfolding first_role
 value_of_all f n e g h role = rw (plain_not f e, g, h)
 
 module _ (v : ℕ) (r : Tree) where
-  -- the tree is the name, and in its place r gives a member
-  abbrev pub spills : Tree → Bool
-  spills t = is_specific_id v (root t) && is_member_tag r
+  abbrev spills : Tree → Bool
+  spills t = E.spills v r t
 
-  -- what is known of a node over its first child, where the search enters this
-  pub record Entering (f : Form) (n : Node) (t : Tree) : Type 0 where
-    pub uncalled : (is 14 n && spills t) ≡ false
-    pub untagged : (is 24 n && spills t) ≡ false
-    pub undeleted : is_delete n ≡ false
-    pub unassigned : is_assignment f ≡ false
-    pub unchained : (is_chain f && is_specific_id v (root t)) ≡ false
+  abbrev Entering : Form → Node → Tree → Type 0
+  Entering f n t = E.Entering v r f n t
 
   -- nothing but the value is kept where r gives a member
   pub kept-value : {Value : Type 0} (f : Form) (n : Node) (t : Tree) → Entering f n t → is_specific_id v (root t) ≡ true → is_member_tag r ≡ true → (b : Beside Value) → kept f n b ≡ nothing-beside

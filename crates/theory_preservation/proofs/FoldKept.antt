@@ -31,7 +31,7 @@ use Rattle.theory_preservation.proofs.Setting.{Setting}
 use Rattle.theory_preservation.proofs.Frame.{shifted}
 use Rattle.theory_preservation.proofs.Passing.{Put, drop}
 use Rattle.theory_preservation.proofs.Aims.{unblocked, ThisKnown}
-use Rattle.theory_preservation.proofs.Sound.{Asked}
+use Rattle.theory_preservation.proofs.Asked.{Asked}
 use Rattle.theory_preservation.proofs.Turned.{Turned, replaced-turned}
 use Rattle.theory_preservation.proofs.Counts.{turned-reads, turned-targets, found, one_time}
 use Rattle.theory_preservation.proofs.Places.{FreeBehind, fold-program}

@@ -19,12 +19,17 @@ pub mod Bare
 pub mod Setting
 pub mod Passing
 pub mod WellMade
+pub mod Waiting
 pub mod Open
 pub mod Placing
+pub mod Turns
 pub mod Children
 pub mod Nodes
+pub mod BeforeAndAfter
 pub mod Aims
+pub mod Entered
 pub mod Entering
+pub mod Asked
 pub mod Sound
 pub mod OneFold
 -- what a search makes of a tree
@@ -52,6 +57,7 @@ pub mod Whole
 -- the steps that a file can make: what a fold leaves makes no others, and the facts are asked of these alone
 pub mod Within
 pub mod MakesAt
+pub mod Placeable
 pub mod SearchWithin
 pub mod MovesWithin
 pub mod Cut

@@ -24,7 +24,8 @@ use Rattle.theory_preservation.proofs.Fit.{fit_parts}
 use Rattle.theory_preservation.proofs.FineKept.{fit-here, stop_fine, drop_fine}
 use Rattle.theory_preservation.proofs.FoldKept.{known-name, fits-here, eval_here, fold_fine}
 use Rattle.theory_preservation.proofs.Within.{Within, WithinDeclarator, declarator-made, WithinDeclarators, WithinProgram, WithinFold, initializer-within, first_part, other-parts, join_first, none_made, parts, join}
-use Rattle.theory_preservation.proofs.SearchWithin.{Placeable, replaced-within, stopped-within}
+use Rattle.theory_preservation.proofs.SearchWithin.{replaced-within, stopped-within}
+use Rattle.theory_preservation.proofs.Placeable.{Placeable}
 
 module _ (Value : Type 0) (f : File) where
   abbrev names : List NameFacts

@@ -12,7 +12,8 @@ use Rattle.theory_preservation.proofs.Setting.{Setting}
 use Rattle.theory_preservation.proofs.Passing.{Forgets, bind-same, first, drop, forget_bind, first-bind}
 use Rattle.theory_preservation.proofs.Placing.{over-bind, value_only, value_only_value}
 use Rattle.theory_preservation.proofs.Placing as P
-use Rattle.theory_preservation.proofs.Sound.{Asked, sound}
+use Rattle.theory_preservation.proofs.Sound.{sound}
+use Rattle.theory_preservation.proofs.Asked.{Asked}
 
 module _ {Value Rest : Type 0} (σ : Setting Value Rest) where
   open σ use {file, m, v, r}

@@ -20,19 +20,19 @@ use Rattle.theory_runs.specs.Hand.{Given, first_or}
 use Rattle.theory_runs.specs.Step.{Role, value}
 use Rattle.theory_runs.specs.Form.{is, cleared, Form, constant, name, chain, property, importing, form, order, childless, is_chain}
 use Rattle.theory_runs.specs.State.{State, Out, gave, bind}
-use Rattle.theory_runs.specs.Run.{Turn, resolved, gathered, queued, held, own, beside, finished, run_node, run, run_children, run_others}
+use Rattle.theory_runs.specs.Run.{resolved, gathered, queued, held, own, beside, finished, run_node, run, run_children}
 use Rattle.theory_runs.specs.Settled.{settled}
 use Rattle.theory_preservation.proofs.Tests.{by_or}
 use Rattle.theory_preservation.proofs.Tables.{form_of}
 use Rattle.theory_preservation.proofs.Ends.{gives, ends-bind, ends-any, ends-map, step_of}
-use Rattle.theory_preservation.proofs.Uses.{reads, all_reads, targets, all_targets}
-use Rattle.theory_preservation.proofs.Frame.{frame, frame-others}
-use Rattle.theory_preservation.proofs.Kept.{still, still-children, kept_by}
+use Rattle.theory_preservation.proofs.Uses.{reads, targets}
+use Rattle.theory_preservation.proofs.Kept.{still-children, kept_by}
 use Rattle.theory_preservation.proofs.Setting.{Setting, settled-resolved}
-use Rattle.theory_preservation.proofs.Passing.{Put, put_unseen, Framed, worth, Unchanging, Reason, reading, steady, constant-unchanging, quiet-unchanging, one_reason, caught_reason}
+use Rattle.theory_preservation.proofs.Waiting.{free-frame, unchanging, by-unchanging}
+use Rattle.theory_preservation.proofs.Passing.{Framed, worth, Reason, reading, steady, constant-unchanging, one_reason, caught_reason}
 
 module _ {Value Rest : Type 0} (σ : Setting Value Rest) where
-  open σ use {file, m, v, r, nothing_hidden, there, free, unaimed, settled-kept, apart}
+  open σ use {file, m, v, r, settled-kept, apart}
 
   abbrev S : Type 0
   S = State Value Rest
@@ -45,15 +45,6 @@ module _ {Value Rest : Type 0} (σ : Setting Value Rest) where
 
   abbrev names : List NameFacts
   names = file.names
-
-  pub free-frame : (t : Tree) → reads v t ≡ 0 → targets v t ≡ 0 → (role : Role) → Framed σ (run names m t role)
-  free-frame t h g role a s = frame names m v (Put v a) (put_unseen nothing_hidden a) t h g role s
-
-  pub free-others : (ts : Trees) (w : Turn) → all_reads v ts ≡ 0 → all_targets v ts ≡ 0 → Framed σ (run_others names m ts w)
-  free-others ts w h g a s = frame-others names m v (Put v a) (put_unseen nothing_hidden a) ts w h g s
-
-  pub unchanging : may_have_side_effects r ≡ false → Unchanging σ
-  unchanging e = quiet-unchanging σ e
 
   -- r is literal
   constant-run : (n : Node) (role : Role) (cs : S → O (List (Given Value))) (s : S) → run_node names m constant n role cs s ≡ gave (record { value = m.constant (step_of n role []); beside = beside names m.undefined constant n [] }) s
@@ -74,11 +65,8 @@ module _ {Value Rest : Type 0} (σ : Setting Value Rest) where
   pub by-literal : {A : Type 0} {s : S} (c : S → O A) → Framed σ c → is_literal_value true r ≡ true → Why s c
   by-literal c h e = let (x, g) = literal-is r e in let (q, k) = constant-unchanging σ x g in reading q h (λ u. ends-any (c u) (λ x s'. k _ _) (λ s'. k _ _))
 
-  pub by-unchanging : {s : S} (t : Tree) (role : Role) → reads v t ≡ 0 → targets v t ≡ 0 → Unchanging σ → may_have_side_effects t ≡ false → Why s (run names m t role)
-  by-unchanging t role h g q e = reading q (free-frame t h g role) (λ u. ends-map (still names m u t e role) (λ x s' p. ap (λ (s : S). worth σ s.store) p) (λ s' p. ap (λ (s : S). worth σ s.store) p) absurd)
-
   pub by-still : {s : S} (t : Tree) (role : Role) → reads v t ≡ 0 → targets v t ≡ 0 → may_have_side_effects r ≡ false → may_have_side_effects t ≡ false → Why s (run names m t role)
-  by-still t role h g e e' = by-unchanging t role h g (unchanging e) e'
+  by-still t role h g e e' = by-unchanging σ t role h g (unchanging σ e) e'
 
   -- what the Rust's last rule lets pass
   pub by_reorder : {s : S} (t : Tree) (role : Role) → reads v t ≡ 0 → targets v t ≡ 0 → can_reorder r t ≡ true → Why s (run names m t role)
@@ -86,7 +74,7 @@ module _ {Value Rest : Type 0} (σ : Setting Value Rest) where
   by_reorder t role h g =
       by_or _ (is_literal_value true r)
       (λ e. let (p, q) = both (not (may_have_side_effects r)) (not (may_have_side_effects t)) e in by-still t role h g (not-true _ p) (not-true _ q))
-      (λ e. by-literal (run names m t role) (free-frame t h g role) e)
+      (λ e. by-literal (run names m t role) (free-frame σ t h g role) e)
 
   -- A node, by its form.
   pub by-constant : {s : S} (n : Node) (role : Role) (cs : S → O (List (Given Value))) → Why s (run_node names m constant n role cs)
@@ -114,7 +102,7 @@ module _ {Value Rest : Type 0} (σ : Setting Value Rest) where
   by-import : {s : S} (n : Node) (role : Role) (ts : Trees) → Framed σ (run_node names m importing n role (run_children names m ts importing n role)) → may_have_side_effects r ≡ false → any_has_side_effects ts ≡ false → Why s (run_node names m importing n role (run_children names m ts importing n role))
   unfolding run_node gathered childless is_chain order finished own queued bind
   by-import n role ts h e e' =
-      reading (unchanging e) h (λ u. ends-bind (ends-map (still-children names m u ts importing n role e') (λ x s' p. p) (λ s' p. ap (λ (s : S). worth σ s.store) p) absurd) (λ hs s' p. gives (ap (λ (s : S). worth σ s.store) p)))
+      reading (unchanging σ e) h (λ u. ends-bind (ends-map (still-children names m u ts importing n role e') (λ x s' p. p) (λ s' p. ap (λ (s : S). worth σ s.store) p) absurd) (λ hs s' p. gives (ap (λ (s : S). worth σ s.store) p)))
 
   -- the run of a node of this shape, and what is passed of it: the children of a chain or a property are passed
   abbrev pub node_run : Shape → Node → Trees → S → O (Given Value)

@@ -19,7 +19,7 @@ use Rattle.theory_runs.specs.Script.{is_pattern, declares_with, run_declarator, 
 use Rattle.theory_preservation.proofs.Setting.{Setting}
 use Rattle.theory_preservation.proofs.Passing.{Forgets, bind_assoc, gave-bind, drop}
 use Rattle.theory_preservation.proofs.Placing as P
-use Rattle.theory_preservation.proofs.Sound.{Asked}
+use Rattle.theory_preservation.proofs.Asked.{Asked}
 use Rattle.theory_preservation.proofs.Program.{FreeDeclarators, FreeStatements, then-on, declarators-on, statements-on, with_on, gives-on}
 use Rattle.theory_preservation.proofs.Site.{rest-run, fold_site}
 

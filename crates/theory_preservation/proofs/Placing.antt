@@ -22,7 +22,7 @@ use Rattle.theory_preservation.proofs.Frame.{moved, shifted, shifted-bind, gave-
 use Rattle.theory_preservation.proofs.Setting.{Setting}
 use Rattle.theory_preservation.proofs.Passing.{Put, Only, bind-same, first, drop, Framed, Unchanging, Reason, reading, steady, passing, unchanging-drop, drop-only, drop-bind, first-bind, first-only, two-reasons}
 use Rattle.theory_preservation.proofs.Same.{in_turn_same, others_same}
-use Rattle.theory_preservation.proofs.Open.{free-frame, free-others}
+use Rattle.theory_preservation.proofs.Waiting.{free-frame, free-others}
 
 module _ {Value Rest : Type 0} where
   unfoldable pub over : {A B : Type 0} → (A → B) → Out Value Rest A → Out Value Rest B

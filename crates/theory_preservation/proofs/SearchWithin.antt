@@ -6,8 +6,8 @@ use mathlib.Core.Path.{◌≡◌, refl, sym, ap, ◌∙◌, subst}
 use Rattle.records.specs.Flags.{is_eval}
 use Rattle.records.specs.Script.{flags_of}
 use Rattle.records.specs.Tree.{Node, Tree, Trees, node, none, more}
-use Rattle.records.specs.Place.{root, is_expression, stand_under, placed, all_placed}
-use Rattle.records.specs.File.{given, File}
+use Rattle.records.specs.Place.{root, stand_under, placed, all_placed}
+use Rattle.records.specs.File.{File}
 use Rattle.records.specs.declared.layout.NameFacts.{NameFacts}
 use Rattle.records.proofs.Tests.{clash, both}
 use Rattle.walk_rules.specs.Context.{Context}
@@ -26,11 +26,13 @@ use Rattle.theory_preservation.proofs.Kept.{under, in_row}
 use Rattle.theory_preservation.proofs.Uses.{specific}
 use Rattle.theory_preservation.proofs.Counts.{zero_at, sequence_at}
 use Rattle.theory_preservation.proofs.Bare.{gives_nothing}
-use Rattle.theory_preservation.proofs.Entering.{Entering, Enters, kept-value, value_of_all, plan-enters}
+use Rattle.theory_preservation.proofs.Entered.{Entering}
+use Rattle.theory_preservation.proofs.Entering.{Enters, kept-value, value_of_all, plan-enters}
 use Rattle.theory_preservation.proofs.MakesAt.{beside_at, makes-at}
 use Rattle.theory_preservation.proofs.Besides.{same_sort, sort_same, nothing_is, nothing_sort, same-nothing, nothing-kept, kept_like, beside_like}
 use Rattle.theory_preservation.proofs.ByKind.{name-test}
 use Rattle.theory_preservation.proofs.Hands.{turn_on}
+use Rattle.theory_preservation.proofs.Placeable as G
 use Rattle.theory_preservation.proofs.Within.{Within, WithinForest, node-children, row_first, row-others, row-join}
 
 same-cleared : (n : Node) → cleared (walked n) ≡ cleared n
@@ -48,13 +50,8 @@ module _ (Value : Type 0) (f : File) (v : ℕ) (r : Tree) where
   abbrev KeepsNone : Node → Type 0
   KeepsNone n = is_nothing (kept (form n) n (beside_of names r)) ≡ true
 
-  -- what is asked of an initializer that is placed, and of the name
-  pub record Placeable : Type 0 where
-    pub steps : Within Value f value r
-    pub expression : is_expression (root r).kind ≡ true
-    pub standing : placed r ≡ true
-    pub no_eval : eval_whole names (given r) ≡ false
-    pub plain : is_eval (flags_of names v) ≡ false
+  abbrev Placeable : Type 0
+  Placeable = G.Placeable Value f v r
 
   -- A tree and what a search leaves of it. Where the tree isn't the name, it gives the same beside its value; and where a node
   -- keeps nothing of what r gives, it has no more in hand of what is left than of the tree.

@@ -20,7 +20,7 @@ use Rattle.theory_preservation.proofs.Frame.{moved}
 use Rattle.theory_preservation.proofs.Setting.{Setting}
 use Rattle.theory_preservation.proofs.Passing.{Put, Forgets, bind_assoc, bind-same, gave-bind, first, drop}
 use Rattle.theory_preservation.proofs.Placing as P
-use Rattle.theory_preservation.proofs.Sound.{Asked}
+use Rattle.theory_preservation.proofs.Asked.{Asked}
 use Rattle.theory_preservation.proofs.OneFold.{one-fold}
 
 -- Parts of programs, one after the other.

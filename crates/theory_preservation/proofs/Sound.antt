@@ -9,7 +9,7 @@ use borrow.Author.Tests.{eqb-true, le-leb, eq-eqb}
 use Rattle.records.specs.Flags.{marked, computed}
 use Rattle.records.specs.Tree.{Node, Tree, Trees, node, none, more, count}
 use Rattle.records.specs.File.{first_tree}
-use Rattle.records.specs.Place.{root, may_be_unchained, unchained, stand_under, placed, all_placed}
+use Rattle.records.specs.Place.{root, may_be_unchained, unchained, stand_under}
 use Rattle.records.specs.Count.{uses_in}
 use Rattle.records.specs.declared.layout.NameFacts.{NameFacts}
 use Rattle.records.proofs.Tests.{clash, both, neither}
@@ -26,20 +26,24 @@ use Rattle.theory_runs.specs.Run.{Turn, all, skipped, second, third, takes, then
 use Rattle.theory_preservation.proofs.Tests.{and_then}
 use Rattle.theory_preservation.proofs.Tables.{choosing, form_of, shape_kinds, shape-kinds}
 use Rattle.theory_preservation.proofs.Ends.{cuts, ends-any}
-use Rattle.theory_preservation.proofs.Uses.{reads, all_reads, targets, all_targets, off-target, specific}
+use Rattle.theory_preservation.proofs.Uses.{reads, all_reads, targets, off-target, specific}
 use Rattle.theory_preservation.proofs.Kept.{under, stands, in_row}
 use Rattle.theory_preservation.proofs.Setting.{Setting}
 use Rattle.theory_preservation.proofs.Passing.{bind_assoc, bind-same, gave-bind, Put, first, drop, Framed, Reason, steady}
 use Rattle.theory_preservation.proofs.Frame.{moved}
-use Rattle.theory_preservation.proofs.WellMade.{well_made, all_well_made, well-node, well-more, named_in}
-use Rattle.theory_preservation.proofs.Open.{unchanging, free-frame, by-still, by_reorder, by_shape}
-use Rattle.theory_preservation.proofs.Entering.{spills, Entering, Enters, kept-value, value_of_value, plan-enters}
+use Rattle.theory_preservation.proofs.WellMade.{well_made, well-node, well-more, named_in}
+use Rattle.theory_preservation.proofs.Open.{by-still, by_reorder, by_shape}
+use Rattle.theory_preservation.proofs.Waiting.{unchanging, free-frame}
+use Rattle.theory_preservation.proofs.Entered.{spills, Entering}
+use Rattle.theory_preservation.proofs.Entering.{Enters, kept-value, value_of_value, plan-enters}
 use Rattle.theory_preservation.proofs.Placing.{over, forks, is_nothing, value_only, value_only_value, plan_good}
 use Rattle.theory_preservation.proofs.Placing as P
-use Rattle.theory_preservation.proofs.Children.{lets, Other, straight, choose, Links, Parts, part_good}
+use Rattle.theory_preservation.proofs.Children.{Other, Links, Parts, part_good}
+use Rattle.theory_preservation.proofs.Turns.{lets, straight, choose}
 use Rattle.theory_preservation.proofs.Children as C
+use Rattle.theory_preservation.proofs.Asked as A
 use Rattle.theory_preservation.proofs.Nodes.{first-name, at_name, shaped, run_as, drop-over, node_good, bared}
-use Rattle.theory_preservation.proofs.Aims.{ThisKnown, AllThisKnown, known-kids, known_head, known-tail, target_why, none_why}
+use Rattle.theory_preservation.proofs.Aims.{ThisKnown, known-kids, known_head, known-tail, target_why, none_why}
 
 module _ {Value Rest : Type 0} (σ : Setting Value Rest) where
   open σ use {file, m, v, r}
@@ -269,12 +273,11 @@ module _ {Value Rest : Type 0} (σ : Setting Value Rest) where
   unfolding run
   nil_why f n = steady (λ u. []) (λ u. refl) (λ a u. refl) (ends-any _ (λ x s'. refl) (λ s'. tt))
 
-  -- What is asked of a tree that is searched: v is read at most once in it and is no target; it is well made.
-  abbrev pub Asked : Tree → Type 0
-  Asked t = (reads v t ≤ 1) × (targets v t ≡ 0) × (placed t ≡ true) × (well_made names t ≡ true) × ThisKnown σ t
+  abbrev Asked : Tree → Type 0
+  Asked t = A.Asked σ t
 
-  abbrev pub AllAsked : Trees → Type 0
-  AllAsked ts = (all_reads v ts ≤ 1) × (all_targets v ts ≡ 0) × (all_placed ts ≡ true) × (all_well_made names ts ≡ true) × AllThisKnown σ ts
+  abbrev AllAsked : Trees → Type 0
+  AllAsked ts = A.AllAsked σ ts
 
   asked-kids : (n : Node) (ts : Trees) → Asked (node n ts) → AllAsked ts
   unfolding uses_in

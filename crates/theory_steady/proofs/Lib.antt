@@ -3,6 +3,8 @@ pub mod Bared
 pub mod Again
 pub mod StillWithin
 pub mod StillRun
+pub mod Reach
 pub mod Repeat
 pub mod FactsPassed
+pub mod AfterRuns
 pub mod SameRuns
