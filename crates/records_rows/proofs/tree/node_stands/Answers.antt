@@ -38,6 +38,8 @@ children_stand-requires-2 c = record {
 }
 
 pub returns : goal.returns
-returns c = record { result = stands_plain c.args.n c.args.stack.now c.args.top _ c.size-children.ensures.result.0 c.if-stack-top.false c.requires.entries _ _ c.size-first.result c.requires.standing c.requires.kind (c.size-first.ensures.result.0 ∙ c.wide.ensures.result.0)
-    (elim c.if-n-eq-PROPERTY.branch [ then-n-eq-PROPERTY+else-is_shorthand w ↦ no_short c.args.n.kind c.args.n.flags (sym w.is_shorthand.ensures.result ∙ w.if-is_shorthand.false) | else-n-eq-PROPERTY w ↦ no_property c.args.n.kind c.args.n.flags w.if-n-eq-PROPERTY.false ])
-    c.children_stand-2.ensures.result c.requires.top }
+returns c = record {
+  result = stands_plain c.args.n c.args.stack.now c.args.top _ c.size-children.ensures.result.0 c.if-stack-top.false c.requires.entries _ _ c.size-first.result c.requires.standing c.requires.kind (c.size-first.ensures.result.0 ∙ c.wide.ensures.result.0)
+      (elim c.if-n-eq-PROPERTY.branch [ then-n-eq-PROPERTY+else-is_shorthand w ↦ no_short c.args.n.kind c.args.n.flags (sym w.is_shorthand.ensures.result ∙ w.if-is_shorthand.false) | else-n-eq-PROPERTY w ↦ no_property c.args.n.kind c.args.n.flags w.if-n-eq-PROPERTY.false ])
+      c.children_stand-2.ensures.result c.requires.top;
+}

@@ -28,6 +28,6 @@ loop-i-preserved c = (
 pub returns : goal.returns
 unfolding initializers
 returns c = record {
-        good = passed-all c.loop-i.invariant.0 c.loop-i-test.false;
-        initializers = summed_all refl c.loop-i.invariant.1 c.loop-i-test.false;
-    }
+  good = passed-all c.loop-i.invariant.0 c.loop-i-test.false;
+  initializers = summed_all refl c.loop-i.invariant.1 c.loop-i-test.false;
+}

@@ -32,7 +32,7 @@ loop-i-preserved c = (
 pub returns : goal.returns
 unfolding declarator_sum expressions
 returns c = record {
-        good = passed-all c.loop-i.invariant.0 c.loop-i-test.false;
-        declarators = summed_all refl c.loop-i.invariant.1 c.loop-i-test.false;
-        expressions = summed_all refl c.loop-i.invariant.2 c.loop-i-test.false;
-    }
+  good = passed-all c.loop-i.invariant.0 c.loop-i-test.false;
+  declarators = summed_all refl c.loop-i.invariant.1 c.loop-i-test.false;
+  expressions = summed_all refl c.loop-i.invariant.2 c.loop-i-test.false;
+}
