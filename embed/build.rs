@@ -1,5 +1,5 @@
-//! Links `libwsf.a`, which `rt staticlib wsf` writes. The environment's `WSF_LIB` names the directory
-//! that has it; without that it is the repository's `target/staticlib`.
+//! Links `libwsf.a`, which `rt lib` writes in `crates/wsf`. The environment's `WSF_LIB` names the
+//! directory that has it; without that it is the repository's `crates/wsf/out`.
 
 use std::path::PathBuf;
 
@@ -10,7 +10,10 @@ fn main() {
     let library = directory.join("libwsf.a");
     println!("cargo::rerun-if-changed={}", library.display());
     if !library.is_file() {
-        println!("cargo::error={} isn't there; `rt staticlib wsf` writes it", library.display());
+        println!(
+            "cargo::error={} isn't there; `rt lib` in crates/wsf writes it",
+            library.display()
+        );
         return;
     }
     println!("cargo::rustc-link-search=native={}", directory.display());
@@ -19,5 +22,5 @@ fn main() {
 
 fn of_repository() -> PathBuf {
     PathBuf::from(std::env::var_os("CARGO_MANIFEST_DIR").expect("cargo gives it"))
-        .join("../target/staticlib")
+        .join("../crates/wsf/out")
 }

@@ -1,6 +1,6 @@
 /*
  * Folds names that are used once in a record file: `const n = 4096; load(n * 8)` becomes
- * `load(4096 * 8)`. The library is target/staticlib/libwsf.a, which `rt staticlib wsf` writes.
+ * `load(4096 * 8)`. The library is crates/wsf/out/libwsf.a, which `rt lib` in crates/wsf writes.
  * docs/EMBEDDING.md has the file's layout and says what is proved.
  *
  *     uint8_t output[WSF_MOST_ROOM];
