@@ -213,7 +213,7 @@ module _ (ctx : Context) (known : Replacement) (table : List ℕ) (at place : No
       → r ≡ record { answer = Replaced place true; end = place; looks = 2 } → Seeks ctx known table table at.0 r
   tag-here n g e l i w k q replacement d pre (node m kids) rest t b =
       let (before, left, x) = w replacement d pre m kids rest t in
-      let (y, z) = tag-did replacement pre rest m kids l (subst (λ z. is_specific_id known.name.0 z ≡ false) (ap node_of (e ∙ node_at_lem t) ∙ node_of_lem m (count kids)) i) (sym x.indirect-is ∙ k) (bare-node m kids b).1 t q in
+      let (y, z) = tag-did replacement pre rest m kids l (subst (λ z. is_specific_id known.name.0 z ≡ false) (ap node_of (e ∙ node_at_lem t) ∙ node_of_lem m (count kids)) i) (sym x.indirect_is ∙ k) (bare-node m kids b).1 t q in
       (node m kids, y, z)
 
 -- Trees that are passed before others.
