@@ -209,14 +209,6 @@ module _ (ctx : Context) {known : Replacement} {table : List ℕ} {at : ℕ} {g 
   pub child_call : g.trees ≡ 1 → Searchable table g.next.0 × (2 * size (tree_at table g.next.0) < 2 * size (tree_at table at))
   child_call o = let (replacement, d) = k in let (x, y, z) = begun_forest ctx w replacement d h in let (u, v) = only_child g.trees o x in (u, omega (arith, y, v))
 
-  -- the node's record still stands where its children were searched
-  pub node-room : (table' : List ℕ) (r : Walked) → SeeksForest ctx known table table' g.next.0 g.trees g.plan r → 16 * at + 16 ≤ length table'
-  node-room table' r f =
-      let (replacement, d) = k in
-      let ((pre, ts, rest, j, c, e), y, z) = begun_forest ctx w replacement d h in
-      let (held, u, l) = f replacement d pre ts rest j c e in
-      omega (arith, room u.here, z)
-
 -- The looks of a forest so far, and with those at its next tree.
 module _ (ctx : Context) (known : Replacement) {table table' : List ℕ} (r q : Forest) (f : GoesOn ctx known table table' r q) (o : r.looks ≡ 0) (k : IsDescription known) (w : SearchableForest table r.next.0 r.trees) where
   pub list_looks : 16 * q.looks ≤ length table

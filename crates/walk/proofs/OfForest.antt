@@ -7,11 +7,11 @@ use mathlib.Core.Path.{◌≡◌, refl, sym, ap, ◌∙◌, subst}
 use Rattle.records.specs.Tree.{Tree, Trees, none, more, count, size, sizes}
 use Rattle.records.proofs.Tests.{clash}
 use Rattle.records_table.specs.Laid.{laid, laids, At}
-use Rattle.records_table.proofs.Laid.{back, beyond, first, whole}
+use Rattle.records_table.proofs.Laid.{back, beyond, whole}
 use Rattle.walk_reorder.specs.Passes.{Passes}
 use Rattle.walk_rules.specs.Context.{Context}
 use Rattle.walk_rules.specs.Effect.{may_have_side_effects, any_has_side_effects}
-use Rattle.walk_rules.specs.Substitute.{Answer as RuleAnswer, replaced, stopped, passed, nothing, branches, next, in_order, in_branches, by_plan, substitute_in_expression, substitute_in_children}
+use Rattle.walk_rules.specs.Substitute.{Answer as RuleAnswer, replaced, stopped, passed, branches, next, in_order, in_branches, by_plan, substitute_in_expression, substitute_in_children}
 use Rattle.walk_rules.specs.Looks.{enters_first, goes_on, is_replaced as is_placed, is_passed as isOpen, looks_in_expression, looks_in_children}
 use Rattle.walk_arms.specs.declared.arms.Plan.{Plan}
 use Rattle.walk_arms.specs.declared.arms.Plan.TheVariants.{All, First, Nothing, Test, Branches}

@@ -23,7 +23,7 @@ use Rattle.records_table.proofs.TreesAt.{tree-there, forest_there}
 use Rattle.walk_rules.specs.Context.{Context}
 use Rattle.walk_rules.specs.Shape.{is, shape, cleared}
 use Rattle.walk_rules.specs.Effect.{may_have_side_effects, any_has_side_effects}
-use Rattle.walk_rules.specs.Substitute.{Answer as RuleAnswer, replaced, stopped, passed, tag, next, at as atPosition, preserve_indirect_access, as_tag, in_order, by_plan, of_node, may_pass, is_specific_id, is_member_tag, keeps_callee, keeps_indirect, plan, plan_for, substitute_in_expression, substitute_in_children}
+use Rattle.walk_rules.specs.Substitute.{Answer as RuleAnswer, replaced, stopped, passed, tag, at as atPosition, preserve_indirect_access, as_tag, in_order, by_plan, of_node, may_pass, is_specific_id, is_member_tag, keeps_callee, keeps_indirect, plan, plan_for, substitute_in_expression, substitute_in_children}
 use Rattle.walk_rules.specs.Looks.{own_looks, enters_first, goes_on, is_passed as isOpen, looks_in_expression, looks_in_children}
 use Rattle.walk_arms.specs.declared.arms.Plan.{Plan}
 use Rattle.walk_arms.specs.declared.arms.Begun.{Begun}

@@ -3,6 +3,6 @@ use Rattle.walk.proofs.forest.forest_behind.Goals as goal
 
 pub returns : goal.returns
 returns c = record {
-        plan = c.next_plan.ensures.result;
-        result = refl;
-    }
+  plan = c.next_plan.ensures.result;
+  result = refl;
+}

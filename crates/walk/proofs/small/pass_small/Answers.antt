@@ -2,11 +2,9 @@ use Prim.Native.Nat.{◌+◌, ◌-◌}
 use native.Mathlib.Omega.{arith}
 use mathlib.Core.Bool.{◌||◌}
 use mathlib.Core.Path.{refl, sym, ◌∙◌}
-use borrow.Author.Tests.{not-false}
 use Rattle.records.specs.File.{read}
 use Rattle.walk_rules.specs.Context.{context_of}
 use Rattle.walk_arms.proofs.Children.{first-stands}
-use Rattle.walk.specs.Forests.{GoesOn}
 use Rattle.walk.proofs.Rest.{all-plan, goes_same, rest-stands, small-bounds, small-passed}
 use Rattle.walk.proofs.small.pass_small.Goals as goal
 
@@ -18,9 +16,9 @@ loop-trees-init c = goes_same (context_of (read c.args.file.now)) c.args.replace
 
 pub small_at-t-requires : goal.small_at-t-requires
 small_at-t-requires c = record {
-        whole = c.requires.whole;
-        tree = first-stands c.loop-trees-test.true (rest-stands (context_of (read c.args.file.now)) c.args.replacement c.args.nodes.now c.args.nodes.now c.args.forest (record { next = c.loop-trees.next; trees = c.loop-trees.trees; plan = c.args.forest.plan; effect = c.loop-trees.effect; looks = c.loop-trees.looks }) c.loop-trees.invariant c.requires.described c.requires.trees);
-    }
+  whole = c.requires.whole;
+  tree = first-stands c.loop-trees-test.true (rest-stands (context_of (read c.args.file.now)) c.args.replacement c.args.nodes.now c.args.nodes.now c.args.forest (record { next = c.loop-trees.next; trees = c.loop-trees.trees; plan = c.args.forest.plan; effect = c.loop-trees.effect; looks = c.loop-trees.looks }) c.loop-trees.invariant c.requires.described c.requires.trees);
+}
 
 pub overflow_add-next : goal.overflow_add-next
 overflow_add-next c = omega (arith, (small-bounds (context_of (read c.args.file.now)) c.args.replacement c.args.nodes.now c.args.forest (record { next = c.loop-trees.next; trees = c.loop-trees.trees; plan = c.args.forest.plan; effect = c.loop-trees.effect; looks = c.loop-trees.looks }) c.loop-trees.invariant c.requires.described c.requires.trees c.small_at-t.result.nodes c.small_at-t.result.effect c.small_at-t.result.looks (c.small_at-t.ensures.result c.if-t-eq0.false) (all-plan c.args.forest.plan (sym c.is_all.ensures.result ∙ c.if-not-is_all.false)).0 c.loop-trees-test.true).0)

@@ -1,13 +1,6 @@
-use Prim.Native.Nat.{◌+◌, ◌-◌}
-use native.Mathlib.Omega.{arith}
-use mathlib.Core.Bool.{◌||◌}
-use mathlib.Core.Path.{refl, sym, ◌∙◌}
-use borrow.Author.Tests.{not-false}
 use Rattle.records.specs.File.{read}
 use Rattle.walk_rules.specs.Context.{context_of}
-use Rattle.walk_arms.proofs.Children.{first-stands}
 use Rattle.walk.specs.Forests.{GoesOn}
-use Rattle.walk.proofs.Rest.{all-plan, goes_same, rest-stands, small-bounds, small-passed}
 use Rattle.walk.proofs.small.pass_small.Given as goal
 
 abbrev pub invariant-loop-trees : goal.invariant-loop-trees

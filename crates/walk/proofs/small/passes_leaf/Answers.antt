@@ -1,7 +1,7 @@
 use mathlib.Core.Bool.{Bool, false, ◌&&◌, not}
 use lib.Dec.{eqb}
 use mathlib.Core.Path.{refl, sym, ap, ◌∙◌, subst}
-use borrow.Author.Tests.{eqb-true, eq-eqb, not-false}
+use borrow.Author.Tests.{eq-eqb}
 use Rattle.records.proofs.Tests.{clash}
 use Rattle.records.specs.File.{read}
 use Rattle.records.specs.Place.{is_expression}

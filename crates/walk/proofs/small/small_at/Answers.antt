@@ -1,11 +1,10 @@
 use native.Mathlib.Omega.{arith}
 use mathlib.Core.Path.{refl, ap}
-use borrow.Author.Tests.{not-true, not-false}
 use Rattle.records.specs.File.{read}
 use Rattle.walk_rules.specs.Context.{context_of}
 use Rattle.records_table.proofs.Laid.{stands-room}
 use Rattle.walk.proofs.SmallTrees.{leaf_room, leaf-at, leaf-below, one_child, small-leaf, small-over}
-use Rattle.std.proofs.Common.{ap, not}
+use Rattle.std.proofs.Common.{ap}
 use Rattle.walk.proofs.small.small_at.Goals as goal
 
 pub has_one_child-over-requires : goal.has_one_child-over-requires
@@ -28,11 +27,11 @@ work_node-n-requires c = record { node = stands-room c.requires.tree }
 
 pub passes_over-requires : goal.passes_over-requires
 passes_over-requires c = record {
-        whole = c.requires.whole;
-        own = c.has_effect-own.ensures.result;
-        effect = c.has_effect-acts.ensures.result;
-        leaf = c.passes_leaf.ensures.result c.if-not-passes_leaf.false;
-    }
+  whole = c.requires.whole;
+  own = c.has_effect-own.ensures.result;
+  effect = c.has_effect-acts.ensures.result;
+  leaf = c.passes_leaf.ensures.result c.if-not-passes_leaf.false;
+}
 
 pub returns-then-not-passes_over : goal.returns-then-not-passes_over
 returns-then-not-passes_over c = record { result = λ n. absurd (n (ap (λ x. x.nodes) c.no_small-then-not-passes_over.ensures.result)) }
