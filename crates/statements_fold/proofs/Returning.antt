@@ -18,7 +18,7 @@ use Rattle.statements_rules.specs.Fold.{with_statements, folded_file, fold_file,
 use Rattle.records_laws.proofs.Accepted.{Accepted as Passed, accepted as rows-passed, has_length}
 use Rattle.records_laws.proofs.PrintedFile.{printed_length}
 use Rattle.theory_demands.proofs.Limits.{Lower, limits-parts}
-use Rattle.theory_demands.proofs.Acceptance.{lower, result-accepted}
+use Rattle.theory_demands.proofs.Acceptance.{lower}
 use Rattle.records_refusal.specs.Passing.{HeaderPasses}
 use Rattle.statements_search.specs.Kept.{folded_names}
 use Rattle.records_result.specs.declared.header.Counts.{Counts}
@@ -63,10 +63,6 @@ header_limits bytes h p = let (a, b, d) = header_counts h p.limits in (b, d)
 -- A file that no row refuses.
 pub none-refuses : (bytes : List ℕ) (room number : ℕ) → number ≡ refusal bytes room → number ≡ 0 → refusal bytes room ≡ 0
 none-refuses bytes room number e z = sym e ∙ z
-
--- the result of an accepted file is accepted, beside what else is known
-pub with_acceptance : {A B : Type 0} (bytes : List ℕ) (room : ℕ) → A × B → A × (B × (refusal bytes room ≡ 0 → refusal (fold_bytes bytes room).result room ≡ 0))
-with_acceptance bytes room p = (p.0, (p.1, λ e. result-accepted bytes room e))
 
 -- the counts of the tables, and what the fold comes to
 abbrev pub counts_of : Totals → Counts
