@@ -5,7 +5,7 @@ use mathlib.Core.Bool.{Bool, true, false, cond}
 use mathlib.Core.List.{List, ◌++◌}
 use mathlib.Core.Path.{◌≡◌, refl, sym, ap, ap₂, ◌∙◌, subst}
 use lib.ListN.{length, take, drop, length-append}
-use lib.Seq.{length-take-le, take-length, take-append_seam}
+use lib.Seq.{length-take-le, take-append_seam}
 use borrow.Author.Tests.{ltb-false}
 use Rattle.records.specs.Record.{header_of}
 use Rattle.records.specs.Refusal.{refusal, room_wanted}
@@ -105,12 +105,12 @@ laid-result bs room next e w =
     (omega (arith, m, many), rw (m, w) (take-append_seam result (drop (length result) next)))
 
 -- what was copied to another buffer
-pub copied : (next current : List ℕ) {current' : List ℕ} (l : ℕ) → l ≤ length next → current' ≡ take (length (take l next)) (take l next) ++ drop (length (take l next)) current
+pub copied : (next current : List ℕ) {current' : List ℕ} (l : ℕ) → l ≤ length next → current' ≡ take l next ++ drop (length (take l next)) current
     → take l current' ≡ take l next
 copied next current l h e =
     let bs = take l next in
     let n : length bs ≡ l = length-take-le l next h in
-    ap (take l) (e ∙ ap (λ (x : List ℕ). x ++ drop (length bs) current) (take-length bs))
+    ap (take l) e
     ∙ ap (λ k. take k (bs ++ drop (length bs) current)) (sym n)
     ∙ take-append_seam bs (drop (length bs) current)
 
@@ -185,11 +185,11 @@ module _ {file : List ℕ} {room : ℕ} where
       runs_fall = let x = runs-left file room going in omega (arith, x)
 
     -- the last run is over
-    pub all-run : steady ≡ true → (output : List ℕ) {output' : List ℕ} → output' ≡ take (length (take l next)) (take l next) ++ drop (length (take l next)) output
+    pub all-run : steady ≡ true → (output : List ℕ) {output' : List ℕ} → output' ≡ take l next ++ drop (length (take l next)) output
         → (numbers (Written l folds runs) ≡ numbers_of (steady_bytes file room)) × (output' ≡ laid_into (steady_bytes file room).result output)
     unfolding at_rest
     all-run off output e =
         let done = subst (Repeating file room (take l next) folds runs) off h.state in
         let f : 0 + folds ≡ folds = omega arith in
         let n : 0 + runs ≡ runs = omega arith in
-        rw (done.rest, f, n, measured) (refl, rw measured at (e ∙ ap (λ (x : List ℕ). x ++ drop (length (take l next)) output) (take-length (take l next))))
+        rw (done.rest, f, n, measured) (refl, rw measured at e)
