@@ -86,7 +86,7 @@ typedef struct {
  * of 0), and that file and output don't overlap.
  *
  * Threads: no global or static state, no allocation, no system call; any number of threads may call
- * at the same time. Of the C library the calls use memcpy and memset.
+ * at the same time. Of the C library the calls use memcpy, memmove and memset.
  *
  * Stack: 2 MB below a call are enough. The size is measured, not proved (docs/EMBEDDING.md).
  */
