@@ -1,6 +1,6 @@
 -- The six kinds of record and the header, each read from its bytes and printed to them. The laws of `Series`
--- say so where they stand: `read-one-in node-reads pre n rest` is that `nodeAt (pre ++ (node_bytes n ++ rest)) (length pre)`
--- is n, and `print-one node-reads node-prints` the other way round. Assumes nothing.
+-- say so where they stand: `read_one_in node-reads pre n rest` is that `node_at (pre ++ (node_bytes n ++ rest)) (length pre)`
+-- is n, and `print-one node-reads node_prints` the other way round. Assumes nothing.
 use mathlib.Core.Path.{◌≡◌, refl, sym, ap, ◌∙◌}
 use mathlib.Core.List.{List, ◌∷◌, ◌++◌}
 use Prim.Native.Nat.{ℕ, zero, suc, ◌+◌, ◌≤◌}

@@ -71,7 +71,7 @@ statement-counted (declaration k ds) forest = rw (no_declaration k 5 (omega arit
 statement-counted (expression t) forest = omega arith
 statement-counted other forest = omega arith
 
--- row 8: the trees are as many as the initializers and the expressions; that they close is `closed-preorders-alone`
+-- row 8: the trees are as many as the initializers and the expressions; that they close is `closed_preorders-alone`
 pub trees-counted : (ss : List Statement) → count (all_trees ss) ≡ initializers (declarator_records (all_declarators ss)) + expressions (statement_records ss)
 unfolding all_trees all_declarators statement_records statement_record expressions declarator_records initializers count
 trees-counted [] = refl

@@ -93,7 +93,7 @@ pub record Coming (file : List ℕ) (h : Header) (p : Progress) (ts : Trees) (ds
   pub few : p.declarators_read + length ds ≤ 65535
   pub names : all_bare_names ts ≡ true
 
--- more looks than one search makes, by the law that there are `mostInUse` at most for each declarator
+-- more looks than one search makes, by the law that there are `most_in_use` at most for each declarator
 abbrev pub most_looks : ℕ
 most_looks = most_in_use * most_in_use
 

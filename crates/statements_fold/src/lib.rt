@@ -22,7 +22,7 @@ pub enum FoldAnswer {
 }
 
 // Folds the record file `file` and lays the result down at the start of `output`; a refusal leaves `output` as it is, and so
-// it is with every byte past the result. What is returned and written is the definition `foldBytes`, of which demand 3 is
+// it is with every byte past the result. What is returned and written is the definition `fold_bytes`, of which demand 3 is
 // proved (`theory_demands/proofs/Demand3.antt`): the run of the result is the run of the file, where the file's facts are true
 // and no initializer is the bare `eval`. A file is refused before any work table is made.
 pub fn fold(file: &[u8], output: &mut [u8]) -> FoldAnswer

@@ -15,5 +15,5 @@ pub record MeasureLaws (file : List ℕ) : Type 0 where
   pub folded : (measure_bytes file).number ≡ 0 → (room : ℕ) → room_wanted file ≤ room → (fold_bytes file room).number ≡ 0
   -- "The length must equal what folding then returns", in every room in which the file is folded.
   pub same_length : (room : ℕ) → (fold_bytes file room).number ≡ 0 → (measure_bytes file).result_length ≡ (fold_bytes file room).result_length
-  -- "looks never exceed (T + 2D) × 3,000", which is `maxNodes`
+  -- "looks never exceed (T + 2D) × 3,000", which is `max_nodes`
   pub looks : (measure_bytes file).looks ≤ ((header_of file).statements + 2 * (header_of file).declarators) * max_nodes

@@ -22,7 +22,7 @@ pub enum MeasureAnswer {
 }
 
 // Folds the record file `file` in the tables alone: the core gets the room that row 11 asks for, so that row 11 doesn't refuse, and
-// an empty output, so that it writes no result. What is returned is the definition `measureBytes`, by the fields of `foldFile`.
+// an empty output, so that it writes no result. What is returned is the definition `measure_bytes`, by the fields of `fold_file`.
 pub fn measure(file: &[u8]) -> MeasureAnswer
     ensures numbers { numbers result ≡ measure_bytes file.now }
     ensures laws { MeasureLaws file.now }

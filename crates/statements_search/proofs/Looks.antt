@@ -1,4 +1,4 @@
--- The looks of a search from declarators and from statements: at most `mostInUse` for each declarator. Assumes nothing.
+-- The looks of a search from declarators and from statements: at most `most_in_use` for each declarator. Assumes nothing.
 use Prim.Native.Nat.{◌+◌, ◌*◌, ◌≤◌}
 use native.Mathlib.Omega.{arith}
 use mathlib.Core.Bool.{Bool}

@@ -28,7 +28,7 @@ pub enum SteadyAnswer {
 
 // Folds the record file `file`, then each result, until a run leaves the bytes as they are, and lays the last result down at the
 // start of `output`; a refusal leaves `output` as it is, and so it is with every byte past the last result. What is returned and
-// written is the definition `steadyBytes`, of which demand 3 is proved (`theory_steady/proofs/SameRuns.antt`): the run of the last
+// written is the definition `steady_bytes`, of which demand 3 is proved (`theory_steady/proofs/SameRuns.antt`): the run of the last
 // result is the run of the file, where the file's facts are true, those on targets of the folds of every run, and no initializer is
 // the bare `eval`. A file that wants little room is folded over small buffers.
 pub fn fold_until_steady(file: &[u8], output: &mut [u8]) -> SteadyAnswer

@@ -35,7 +35,7 @@ unfolding times
 times-sum zero j c = let z : 0 + j ≡ j = omega arith in rw z (omega arith)
 times-sum (suc i) j c = let h = times-sum i j c in let z : suc i + j ≡ suc (i + j) = omega arith in rw z (omega (arith, h))
 
--- the nodes that `preserveIndirectAccess` puts in
+-- the nodes that `preserve_indirect_access` puts in
 abbrev pub zero_at : ℕ → Node
 zero_at p = record { kind = 1; flags = 0; label = 65535; position = p }
 

@@ -34,7 +34,7 @@ is_delete n = is 9 n && eqb n.label 1
 pub data Choice : Type 0 where
   never logical conditional optionally : Choice
 
--- constant: 1 literal, 2 function, 27 elision. name: 4. targetName: 29. leaf: the other kinds without children, 0, 3, 5
+-- constant: 1 literal, 2 function, 27 elision. name: 4. target_name: 29. leaf: the other kinds without children, 0, 3, 5
 -- and 30. chain: 13. property: 26 with one child. importing: 8. sequence: 28. assignment: 20, compound or not. stepping:
 -- every other kind, with what it chooses. (ECMA-262: literals 13.2.3.1, functions 15.2.6, elisions 13.2.4.1, names 13.1.3,
 -- classes 15.7.16, `this` 13.2.1.1, chains 13.3.9.1, properties 13.2.5.5, imports 13.3.10.1, sequences 13.16.1, assignments

@@ -1,4 +1,4 @@
--- What a step can have in hand, with any values: by `beside` and `kept` of Run, and as `runOthers` has it.
+-- What a step can have in hand, with any values: by `beside` and `kept` of Run, and as `run_others` has it.
 use Rattle.std.specs.Prelude.{ℕ, Bool, true, false, cond, ◌&&◌, ◌||◌, not, List, [], ◌∷◌, eqb}
 use Rattle.records.specs.Tree.{Node, Tree, Trees, node, none, more}
 use Rattle.records.specs.Place.{root}

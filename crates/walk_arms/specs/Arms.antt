@@ -99,7 +99,7 @@ is_branches Nothing = false
 is_branches Test = false
 is_branches Branches = true
 
--- `keepsCallee` and `keepsIndirect`, by what the code knows: a node, the root of its first child, and the tree to place
+-- `keeps_callee` and `keeps_indirect`, by what the code knows: a node, the root of its first child, and the tree to place
 abbrev pub KeepsCallee : NodeRecord → NodeRecord → Replacement → Bool → Type 0
 KeepsCallee n child known r =
     (replacement : Tree) → Describes known replacement → (kids : Trees) → root (first_tree kids) ≡ node_of child
@@ -117,7 +117,7 @@ PlansFor shape n child known r =
     → is_assignment shape ≡ false → keeps_indirect known.name.0 replacement (node_of n) kids ≡ false
     → planned r ≡ plan ctx known.name.0 replacement (shaped shape) (node_of n) kids
 
--- `canReorder`, by what is known of the tree to place, and whether the other one has an effect
+-- `can_reorder`, by what is known of the tree to place, and whether the other one has an effect
 abbrev pub Reorders : Replacement → Bool → Bool → Type 0
 Reorders known effect r =
     (replacement t : Tree) → Describes known replacement → effect ≡ may_have_side_effects t → r ≡ can_reorder replacement t
@@ -137,7 +137,7 @@ stops_in ctx replacement stopping kids = false
 stops_in ctx replacement (assignment isCompound) kids = stops_at_target ctx replacement isCompound (first_tree kids)
 stops_in ctx replacement (steps choice) kids = false
 
--- `mayPass`, by whether the node itself and its children have an effect, and whether a target ends the search
+-- `may_pass`, by whether the node itself and its children have an effect, and whether a target ends the search
 abbrev pub MayPass : Context → Shape → NodeRecord → Replacement → (own children stops : Bool) → Bool → Type 0
 MayPass ctx shape n known own children stops r =
     (replacement : Tree) → Describes known replacement → (kids : Trees) → own ≡ has_effect (node_of n)
