@@ -9,7 +9,7 @@ use lib.ListN.{length, drop, length-reverse}
 use Rattle.records.specs.Bytes.{Bytes}
 use Rattle.records.specs.Record.{declarator_at, declarator_bytes, statement_at, statement_bytes}
 use Rattle.records.specs.Records.{records_from, bytes_of}
-use Rattle.records.specs.Tree.{Trees, more, sizes}
+use Rattle.records.specs.Tree.{Trees, sizes}
 use Rattle.records.specs.File.{Initializer, bare, given, Declarator, Statement, declaration, expression, other, declarator_records, declarators_in, statement_record, statement_records, initializer_tree, initializer_trees, statement_trees, all_trees, all_declarators}
 use Rattle.records.specs.declared.layout.DeclaratorRecord.{DeclaratorRecord}
 use Rattle.records.specs.declared.layout.StatementRecord.{StatementRecord}

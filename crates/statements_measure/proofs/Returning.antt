@@ -5,7 +5,7 @@ use mathlib.Core.Bool.{Bool, true, false}
 use mathlib.Core.List.{List}
 use mathlib.Core.Path.{◌≡◌, refl, sym, ap, ◌∙◌}
 use lib.Dec.{eqb}
-use borrow.Author.Tests.{eqb-true, eqb-false, ne_eqb}
+use borrow.Author.Tests.{eqb-true, eqb-false}
 use Rattle.records.specs.Refusal.{room_wanted, refusal, file_refusal}
 use Rattle.statements_fold.specs.declared.tables.Outcome.{Outcome}
 use Rattle.statements_fold.specs.Outcome.{outcome_of, FoldsRecords}

@@ -1,4 +1,4 @@
-use Rattle.std.proofs.Common.{◌∙◌, ◌-◌, arith}
+use Rattle.std.proofs.Common.{◌∙◌, arith}
 use borrow.Rule.Slice.PartMut.{mid_len}
 use Rattle.records.proofs.put.put_copy.Goals as goal
 

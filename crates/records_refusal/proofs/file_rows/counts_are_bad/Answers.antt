@@ -4,7 +4,6 @@ use Rattle.records.specs.File.{names_of}
 use Rattle.records.specs.Record.{name_at}
 use Rattle.records.proofs.Series.{records-length}
 use Rattle.records_refusal.proofs.Judged.{counts-judged}
-use Rattle.records_refusal.proofs.file_rows.counts_are_bad.Reads as reads
 use Rattle.records_refusal.proofs.file_rows.counts_are_bad.Goals as goal
 
 pub returns : goal.returns

@@ -1,9 +1,4 @@
-use mathlib.Core.Path.{refl, ◌∙◌}
-use mathlib.Core.Bool.{true}
-use native.Mathlib.Omega.{arith}
-use borrow.Author.Tests.{not-true, not-false}
-use Rattle.records_refusal.proofs.Scans.{Asking, asked-more, asked_bad, asked-all}
-use Rattle.records_refusal.proofs.scan.nodes_are_good.Reads as reads
+use Rattle.records_refusal.proofs.Scans.{Asking}
 use Rattle.records_refusal.proofs.scan.nodes_are_good.Given as goal
 
 abbrev pub invariant-loop-left : goal.invariant-loop-left

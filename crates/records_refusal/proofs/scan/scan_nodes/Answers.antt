@@ -3,7 +3,6 @@ use mathlib.Core.Bool.{false≢true}
 use native.Mathlib.Omega.{arith}
 use borrow.Author.Tests.{not-true, not-false}
 use Rattle.records_refusal.proofs.Scans.{names-inside, nodes-inside, none-used, whole-nodes, whole-trees, whole-taken, whole_bad, whole-asked}
-use Rattle.records_refusal.proofs.scan.scan_nodes.Reads as reads
 use Rattle.records_refusal.proofs.scan.scan_nodes.Goals as goal
 
 pub scan_trees-s-requires : goal.scan_trees-s-requires

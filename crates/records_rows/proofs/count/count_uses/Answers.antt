@@ -6,7 +6,6 @@ use Rattle.records.specs.Tree.{node_of}
 use Rattle.records.specs.Count.{target_name}
 use Rattle.records.specs.declared.layout.NodeRecord.{NodeRecord}
 use Rattle.records_rows.proofs.Naming.{read_name, read-leaf, read_plain, read-compound, target-named, target_none, target-unnamed, none-used}
-use Rattle.records_rows.proofs.count.count_uses.Reads as reads
 use Rattle.records_rows.proofs.count.count_uses.Goals as goal
 
 pub add_use-requires : goal.add_use-requires

@@ -1,9 +1,4 @@
-use native.Mathlib.Omega.{arith}
-use Prim.Native.Nat.{◌-◌}
-use lib.ListN.{get_or}
-use Rattle.records.specs.Record.{name_at}
-use Rattle.records.specs.Count.{good_counts}
-use Rattle.records.proofs.Series.{Passed, passed_none, passed-more, passed-all}
+use Rattle.records.proofs.Series.{passed_none, passed-more, passed-all}
 use Rattle.records_rows.proofs.count.counts_are_good.Goals as goal
 
 pub loop-i-init : goal.loop-i-init

@@ -1,9 +1,8 @@
-use native.Mathlib.Omega.{arith}
 use Prim.Native.Nat.{◌-◌}
 use lib.ListN.{get_or}
 use Rattle.records.specs.Record.{name_at}
 use Rattle.records.specs.Count.{good_counts}
-use Rattle.records.proofs.Series.{Passed, passed_none, passed-more, passed-all}
+use Rattle.records.proofs.Series.{Passed}
 use Rattle.records_rows.proofs.count.counts_are_good.Given as goal
 
 abbrev pub invariant-loop-i : goal.invariant-loop-i

@@ -1,6 +1,5 @@
 use native.Mathlib.Omega.{arith}
-use Rattle.records.specs.Record.{declarator_at}
-use Rattle.records_rows.proofs.Declaring.{Declaring, declaring-none, declaring-name, declaring_pattern, declared-all, pattern_at}
+use Rattle.records_rows.proofs.Declaring.{declaring-none, declaring-name, declaring_pattern, declared-all, pattern_at}
 use Rattle.records_rows.proofs.declared.declared_twice.Goals as goal
 
 pub loop-i-init : goal.loop-i-init

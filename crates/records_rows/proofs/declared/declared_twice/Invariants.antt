@@ -1,6 +1,5 @@
-use native.Mathlib.Omega.{arith}
 use Rattle.records.specs.Record.{declarator_at}
-use Rattle.records_rows.proofs.Declaring.{Declaring, declaring-none, declaring-name, declaring_pattern, declared-all, pattern_at}
+use Rattle.records_rows.proofs.Declaring.{Declaring}
 use Rattle.records_rows.proofs.declared.declared_twice.Given as goal
 
 abbrev pub invariant-loop-i : goal.invariant-loop-i

@@ -1,7 +1,6 @@
-use Prim.Native.Nat.{◌-◌}
 use native.Mathlib.Omega.{arith}
 use Rattle.records.proofs.Series.{passed-all}
-use Rattle.records_rows.proofs.Standings.{Passing, first-passed, first_failed, later-passed, later_failed}
+use Rattle.records_rows.proofs.Standings.{first-passed, first_failed, later-passed, later_failed}
 use Rattle.std.proofs.Common.{ap, not}
 use Rattle.records_rows.proofs.place.children_stand.Goals as goal
 

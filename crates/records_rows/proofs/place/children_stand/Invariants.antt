@@ -1,7 +1,5 @@
 use Prim.Native.Nat.{◌-◌}
-use native.Mathlib.Omega.{arith}
-use Rattle.records.proofs.Series.{passed-all}
-use Rattle.records_rows.proofs.Standings.{Passing, first-passed, first_failed, later-passed, later_failed}
+use Rattle.records_rows.proofs.Standings.{Passing}
 use Rattle.records_rows.proofs.place.children_stand.Given as goal
 
 abbrev pub invariant-loop-i : goal.invariant-loop-i

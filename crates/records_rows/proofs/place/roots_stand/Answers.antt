@@ -1,11 +1,9 @@
 use mathlib.Core.Path.{sym, ◌∙◌}
 use mathlib.Core.Bool.{and-true}
-use Prim.Native.Nat.{◌-◌}
-use native.Mathlib.Omega.{arith}
 use native.Mathlib.Nat.{one-mul}
 use Rattle.records.specs.Records.{records_from, every_from}
-use Rattle.records.proofs.Series.{Passed, passed_none, passed-more, passed-all}
-use Rattle.records_rows.specs.Stack.{entry_at, root_stands}
+use Rattle.records.proofs.Series.{passed_none, passed-more, passed-all}
+use Rattle.records_rows.specs.Stack.{entry_at}
 use Rattle.records_rows.proofs.place.roots_stand.Goals as goal
 
 pub returns-then-count-eq1 : goal.returns-then-count-eq1

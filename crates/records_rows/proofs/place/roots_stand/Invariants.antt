@@ -1,10 +1,5 @@
-use mathlib.Core.Path.{sym, ◌∙◌}
-use mathlib.Core.Bool.{and-true}
 use Prim.Native.Nat.{◌-◌}
-use native.Mathlib.Omega.{arith}
-use native.Mathlib.Nat.{one-mul}
-use Rattle.records.specs.Records.{records_from, every_from}
-use Rattle.records.proofs.Series.{Passed, passed_none, passed-more, passed-all}
+use Rattle.records.proofs.Series.{Passed}
 use Rattle.records_rows.specs.Stack.{entry_at, root_stands}
 use Rattle.records_rows.proofs.place.roots_stand.Given as goal
 

@@ -1,8 +1,4 @@
-use Prim.Native.Nat.{◌-◌}
-use native.Mathlib.Omega.{arith}
-use Rattle.records.specs.Record.{name_at}
-use Rattle.records.specs.Facts.{good_name}
-use Rattle.records.proofs.Series.{Passed, passed_none, passed-more, passed-all}
+use Rattle.records.proofs.Series.{passed_none, passed-more, passed-all}
 use Rattle.records_tests.proofs.facts.names_are_good.Goals as goal
 
 pub loop-i-init : goal.loop-i-init

@@ -1,8 +1,7 @@
 use Prim.Native.Nat.{◌-◌}
-use native.Mathlib.Omega.{arith}
 use Rattle.records.specs.Record.{name_at}
 use Rattle.records.specs.Facts.{good_name}
-use Rattle.records.proofs.Series.{Passed, passed_none, passed-more, passed-all}
+use Rattle.records.proofs.Series.{Passed}
 use Rattle.records_tests.proofs.facts.names_are_good.Given as goal
 
 abbrev pub invariant-loop-i : goal.invariant-loop-i

@@ -1,9 +1,5 @@
 use mathlib.Core.Path.{◌∙◌}
-use Prim.Native.Nat.{◌-◌}
-use native.Mathlib.Omega.{arith}
-use Rattle.records.specs.Record.{scope_at}
-use Rattle.records.specs.Facts.{good_scope}
-use Rattle.records.proofs.Series.{Passed, passed_none, passed-more, passed-all}
+use Rattle.records.proofs.Series.{passed_none, passed-more, passed-all}
 use Rattle.records_tests.proofs.facts.scopes_are_good.Goals as goal
 
 pub loop-i-init : goal.loop-i-init

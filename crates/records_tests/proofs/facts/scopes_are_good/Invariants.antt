@@ -1,9 +1,7 @@
-use mathlib.Core.Path.{◌∙◌}
 use Prim.Native.Nat.{◌-◌}
-use native.Mathlib.Omega.{arith}
 use Rattle.records.specs.Record.{scope_at}
 use Rattle.records.specs.Facts.{good_scope}
-use Rattle.records.proofs.Series.{Passed, passed_none, passed-more, passed-all}
+use Rattle.records.proofs.Series.{Passed}
 use Rattle.records_tests.proofs.facts.scopes_are_good.Given as goal
 
 abbrev pub invariant-loop-i : goal.invariant-loop-i

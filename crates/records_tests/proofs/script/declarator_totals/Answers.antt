@@ -1,14 +1,10 @@
 use mathlib.Core.Path.{refl}
-use Prim.Native.Nat.{◌-◌, ◌≤◌}
 use native.Mathlib.Omega.{arith}
 use lib.Dec.{eqb}
-use Rattle.records.specs.Record.{name_at, declarator_at}
-use Rattle.records.specs.Records.{records_from}
 use Rattle.records.specs.File.{one, initializers}
-use Rattle.records.specs.Script.{good_declarator}
 use Rattle.records.specs.declared.layout.DeclaratorRecord.{DeclaratorRecord}
 use Rattle.records.proofs.Names.{declarator-judged}
-use Rattle.records.proofs.Series.{Passed, passed_none, passed-more, passed-all, Summed, summed_none, summed_more, summed_all}
+use Rattle.records.proofs.Series.{passed_none, passed-more, passed-all, summed_none, summed_more, summed_all}
 use Rattle.records_tests.proofs.script.declarator_totals.Goals as goal
 
 pub loop-i-init : goal.loop-i-init

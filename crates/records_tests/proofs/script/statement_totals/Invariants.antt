@@ -1,13 +1,8 @@
-use mathlib.Core.Path.{refl}
 use Prim.Native.Nat.{◌-◌, ◌*◌, ◌≤◌}
-use native.Mathlib.Omega.{arith}
-use lib.Dec.{eqb}
 use Rattle.records.specs.Record.{statement_at}
-use Rattle.records.specs.File.{one}
 use Rattle.records.specs.Script.{good_statement, declarator_sum}
 use Rattle.records.specs.Place.{expressions}
-use Rattle.records.specs.declared.layout.StatementRecord.{StatementRecord}
-use Rattle.records.proofs.Series.{Passed, passed_none, passed-more, passed-all, Summed, summed_none, summed_more, summed_all}
+use Rattle.records.proofs.Series.{Passed, Summed}
 use Rattle.records_tests.proofs.script.statement_totals.Given as goal
 
 abbrev pub invariant-loop-i : goal.invariant-loop-i

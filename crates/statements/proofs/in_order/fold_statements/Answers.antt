@@ -1,11 +1,10 @@
 use mathlib.Core.List.{List}
-use mathlib.Core.Path.{◌≡◌, refl, ap, ◌∙◌}
-use Prim.Native.Nat.{ℕ, ◌+◌, ◌-◌, ◌*◌}
+use mathlib.Core.Path.{refl, ap, ◌∙◌}
+use Prim.Native.Nat.{ℕ, ◌+◌, ◌*◌}
 use native.Mathlib.Omega.{arith}
-use lib.ListN.{length, get_or, length-set}
-use Rattle.records.specs.Bytes.{Bytes}
+use lib.ListN.{get_or, length-set}
 use Rattle.records.specs.Record.{statement_at}
-use Rattle.statements.proofs.Sequence.{SomeOrdered, ordered_begins, ordered_inside, can_fold, ordered_on, ordered_ends}
+use Rattle.statements.proofs.Sequence.{ordered_begins, ordered_inside, can_fold, ordered_on, ordered_ends}
 use Rattle.statements.proofs.in_order.fold_statements.Goals as goal
 
 pub loop-i-init : goal.loop-i-init

@@ -1,11 +1,8 @@
-use mathlib.Core.List.{List}
-use mathlib.Core.Path.{◌≡◌, refl, ap, ◌∙◌}
-use Prim.Native.Nat.{ℕ, ◌+◌, ◌-◌, ◌*◌}
-use native.Mathlib.Omega.{arith}
-use lib.ListN.{length, get_or, length-set}
+use mathlib.Core.Path.{◌≡◌}
+use Prim.Native.Nat.{◌-◌}
+use lib.ListN.{length}
 use Rattle.records.specs.Bytes.{Bytes}
-use Rattle.records.specs.Record.{statement_at}
-use Rattle.statements.proofs.Sequence.{SomeOrdered, ordered_begins, ordered_inside, can_fold, ordered_on, ordered_ends}
+use Rattle.statements.proofs.Sequence.{SomeOrdered}
 use Rattle.statements.proofs.in_order.fold_statements.Given as goal
 
 abbrev pub invariant-loop-i : goal.invariant-loop-i

@@ -1,4 +1,3 @@
-use mathlib.Core.Path.{◌∙◌}
 use native.Mathlib.Omega.{arith}
 use Rattle.records.specs.File.{read}
 use Rattle.walk_rules.specs.Context.{context_of}

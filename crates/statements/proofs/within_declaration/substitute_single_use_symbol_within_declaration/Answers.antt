@@ -1,9 +1,8 @@
-use mathlib.Core.Path.{◌≡◌, refl}
+use mathlib.Core.Path.{refl}
 use native.Mathlib.Omega.{arith}
-use lib.ListN.{length}
 use Rattle.records.specs.File.{read}
 use Rattle.walk_rules.specs.Context.{context_of}
-use Rattle.statements.proofs.Going.{SomeGoing, going-begins, can_go, going_on, going-ends}
+use Rattle.statements.proofs.Going.{going-begins, can_go, going_on, going-ends}
 use Rattle.statements.proofs.within_declaration.substitute_single_use_symbol_within_declaration.Goals as goal
 
 pub loop-left-init : goal.loop-left-init

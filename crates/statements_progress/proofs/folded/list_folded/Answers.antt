@@ -1,5 +1,5 @@
 use native.Mathlib.Omega.{arith}
-use Rattle.statements_progress.proofs.Listing.{Listing, listing_begins, listing_on, listing_ends}
+use Rattle.statements_progress.proofs.Listing.{listing_begins, listing_on, listing_ends}
 use Rattle.statements_progress.proofs.folded.list_folded.Goals as goal
 
 pub loop-last-init : goal.loop-last-init

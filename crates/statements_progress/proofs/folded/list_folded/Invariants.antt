@@ -1,5 +1,4 @@
-use native.Mathlib.Omega.{arith}
-use Rattle.statements_progress.proofs.Listing.{Listing, listing_begins, listing_on, listing_ends}
+use Rattle.statements_progress.proofs.Listing.{Listing}
 use Rattle.statements_progress.proofs.folded.list_folded.Given as goal
 
 abbrev pub invariant-loop-last : goal.invariant-loop-last

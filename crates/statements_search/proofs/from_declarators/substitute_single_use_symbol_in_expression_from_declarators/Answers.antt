@@ -1,11 +1,9 @@
-use Prim.Native.Nat.{◌+◌}
 use borrow.Author.Tests.{not-true, not-false}
 use native.Mathlib.Omega.{arith}
-use mathlib.Core.Path.{◌≡◌, refl, ◌∙◌}
-use lib.ListN.{length}
+use mathlib.Core.Path.{refl, ◌∙◌}
 use Rattle.records.specs.File.{read}
 use Rattle.walk_rules.specs.Context.{context_of}
-use Rattle.statements_search.proofs.Going.{SomeGoing, going-begins, can_try, looks-fit, some-on, some-ends, some-none}
+use Rattle.statements_search.proofs.Going.{going-begins, can_try, looks-fit, some-on, some-ends, some-none}
 use Rattle.statements_search.proofs.from_declarators.substitute_single_use_symbol_in_expression_from_declarators.Goals as goal
 
 pub loop-left-init : goal.loop-left-init

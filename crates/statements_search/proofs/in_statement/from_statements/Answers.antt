@@ -1,8 +1,6 @@
 use native.Mathlib.Omega.{arith}
-use mathlib.Core.Path.{◌≡◌, ◌∙◌}
-use Rattle.records.specs.File.{read}
-use Rattle.walk_rules.specs.Context.{context_of, non_scoped_literal_only}
-use Rattle.statements_search.proofs.InStatements.{Turn, literal-bit, first-turn, at_first, at-end, fewer-declared, searchable, found-fewer, looks-fit, next-turn, at-kept}
+use mathlib.Core.Path.{◌∙◌}
+use Rattle.statements_search.proofs.InStatements.{literal-bit, first-turn, at_first, at-end, fewer-declared, searchable, found-fewer, looks-fit, next-turn, at-kept}
 use Rattle.statements_search.proofs.in_statement.from_statements.Goals as goal
 
 pub loop-kept-init : goal.loop-kept-init

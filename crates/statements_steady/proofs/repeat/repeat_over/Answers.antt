@@ -1,4 +1,4 @@
-use Prim.Native.Nat.{◌-◌, ◌≤◌}
+use Prim.Native.Nat.{◌≤◌}
 use native.Mathlib.Omega.{arith}
 use mathlib.Core.Path.{sym, ap, ◌∙◌, subst}
 use lib.ListN.{length, take}
@@ -6,10 +6,9 @@ use lib.Seq.{length-take-le}
 use Rattle.records.specs.Record.{header_of}
 use Rattle.records.specs.Refusal.{room_wanted}
 use Rattle.records_refusal.specs.Passing.{HeaderPasses}
-use Rattle.statements_rules.specs.Steady.{steady_bytes}
 use Rattle.statements_fold.proofs.Core.{number_is}
 use Rattle.statements_steady.specs.declared.run.Run.{Run}
-use Rattle.statements_steady.proofs.Running.{accepted-passes, Looping, copied, first_run, fits, next-run, folds-few, runs-few, runs_fall, all-run}
+use Rattle.statements_steady.proofs.Running.{accepted-passes, copied, first_run, fits, next-run, folds-few, runs-few, runs_fall, all-run}
 use Rattle.statements_steady.proofs.Returning.{all-refused}
 use Rattle.statements_steady.proofs.repeat.repeat_over.Goals as goal
 

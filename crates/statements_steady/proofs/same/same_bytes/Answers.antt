@@ -1,8 +1,6 @@
-use Prim.Native.Nat.{◌-◌}
 use native.Mathlib.Omega.{arith}
 use mathlib.Core.Path.{refl, sym}
-use lib.ListN.{length}
-use Rattle.statements_steady.proofs.Comparing.{other_length, Compared, compared_all, compared_next}
+use Rattle.statements_steady.proofs.Comparing.{other_length, compared_all, compared_next}
 use Rattle.statements_steady.proofs.same.same_bytes.Goals as goal
 
 pub returns-then-a-b : goal.returns-then-a-b

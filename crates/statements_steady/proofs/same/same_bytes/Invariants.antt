@@ -1,8 +1,6 @@
 use Prim.Native.Nat.{◌-◌}
-use native.Mathlib.Omega.{arith}
-use mathlib.Core.Path.{refl, sym}
 use lib.ListN.{length}
-use Rattle.statements_steady.proofs.Comparing.{other_length, Compared, compared_all, compared_next}
+use Rattle.statements_steady.proofs.Comparing.{Compared}
 use Rattle.statements_steady.proofs.same.same_bytes.Given as goal
 
 abbrev pub invariant-loop-i : goal.invariant-loop-i
