@@ -70,7 +70,7 @@ def is_camel(word):
 def snake(word):
     if not word[:1].islower():
         return word
-    return re.sub(r"(?<=[a-z0-9])([A-Z])", lambda m: "_" + m.group(1).lower(), word)
+    return re.sub(r"(?<=[A-Za-z0-9])([A-Z])", lambda m: "_" + m.group(1).lower(), word)
 
 
 def new_name(word, words):

@@ -1,5 +1,7 @@
-// Lines of text and numbers on standard output.
+// Lines of text and numbers on standard output; and the input, in a module of its own.
 #![tactic(auto)]
+
+pub mod input;
 
 use std::io;
 

@@ -5,8 +5,8 @@ use Rattle.records.specs.File.{file_length}
 use Rattle.records.specs.declared.layout.Header.{Header}
 
 -- 1: "under 24 bytes, or not `WSF`"
-unfoldable pub not_aRecord_file : List ℕ → Bool
-not_aRecord_file bs = ltb (length bs) header_length || not (eqb (get_or bs 0 0) 87 && eqb (get_or bs 1 0) 83 && eqb (get_or bs 2 0) 70)
+unfoldable pub not_a_record_file : List ℕ → Bool
+not_a_record_file bs = ltb (length bs) header_length || not (eqb (get_or bs 0 0) 87 && eqb (get_or bs 1 0) 83 && eqb (get_or bs 2 0) 70)
 
 -- 2: "version not 1"
 unfoldable pub other_version : Header → Bool

@@ -3,7 +3,7 @@ use Rattle.std.specs.Prelude.{ℕ, ◌+◌, ◌*◌, Bool, cond, List, length, l
 use Rattle.records.specs.Record.{header_of}
 use Rattle.records.specs.Tree.{forest_of}
 use Rattle.records.specs.File.{names_of, scopes_of, frames_of, nodes_of, declarators_of, statements_of}
-use Rattle.records.specs.Header.{not_aRecord_file, other_version, outside_limits, other_length}
+use Rattle.records.specs.Header.{not_a_record_file, other_version, outside_limits, other_length}
 use Rattle.records.specs.Facts.{bad_facts}
 use Rattle.records.specs.Script.{bad_statements, declared_twice}
 use Rattle.records.specs.Node.{bad_nodes}
@@ -21,7 +21,7 @@ row number holds later = cond holds number later
 -- The number that a file and a room for its result are refused with; 0 if they are accepted.
 unfoldable pub refusal : List ℕ → ℕ → ℕ
 refusal bs room =
-    row 1 (not_aRecord_file bs)
+    row 1 (not_a_record_file bs)
     (row 2 (other_version (header_of bs))
     (row 3 (outside_limits (header_of bs))
     (row 4 (other_length bs (header_of bs))

@@ -12,7 +12,7 @@ use Rattle.records.specs.Records.{every}
 use Rattle.records.specs.Record.{header_of}
 use Rattle.records.specs.Tree.{count, forest_of, closed}
 use Rattle.records.specs.File.{names_of, scopes_of, frames_of, nodes_of, declarators_of, statements_of, file_length, initializers}
-use Rattle.records.specs.Header.{counts_fit, options_known, header_scopes, not_aRecord_file, other_version, outside_limits, other_length}
+use Rattle.records.specs.Header.{counts_fit, options_known, header_scopes, not_a_record_file, other_version, outside_limits, other_length}
 use Rattle.records.specs.Facts.{bad_facts}
 use Rattle.records.specs.Script.{good_declarator, good_statement, declarator_sum, bad_statements, declared_twice}
 use Rattle.records.specs.Node.{good_node, bad_nodes}
@@ -23,7 +23,7 @@ use Rattle.records.proofs.Tests.{both, all_three, neither}
 
 -- No row holds.
 pub record Accepted (bs : List ℕ) (room : ℕ) : Type 0 where
-  pub is_script : not_aRecord_file bs ≡ false
+  pub is_script : not_a_record_file bs ≡ false
   pub version : other_version (header_of bs) ≡ false
   pub limits : outside_limits (header_of bs) ≡ false
   pub measured : other_length bs (header_of bs) ≡ false
@@ -50,7 +50,7 @@ none-held n (false ∷ ts) e (suc i) = none-held (suc n) ts e i
 -- rows 1 to 10, which are of the file alone
 unfoldable pub file_tests : List ℕ → List Bool
 file_tests bs =
-    not_aRecord_file bs ∷ other_version (header_of bs) ∷ outside_limits (header_of bs) ∷ other_length bs (header_of bs)
+    not_a_record_file bs ∷ other_version (header_of bs) ∷ outside_limits (header_of bs) ∷ other_length bs (header_of bs)
     ∷ bad_facts (names_of bs) (scopes_of bs) (frames_of bs) ∷ bad_statements (names_of bs) (declarators_of bs) (statements_of bs) ∷ bad_nodes (names_of bs) (nodes_of bs)
     ∷ bad_trees (declarators_of bs) (statements_of bs) (nodes_of bs) ∷ declared_twice (declarators_of bs) ∷ bad_counts (names_of bs) (forest_of (nodes_of bs)) ∷ []
 
@@ -91,7 +91,7 @@ module _ (bs : List ℕ) (room : ℕ) where
 module _ {bs : List ℕ} {room : ℕ} (a : Accepted bs room) where
   -- 1: the header is there, with its letters
   pub has_header : (header_length ≤ length bs) × (get_or bs 0 0 ≡ 87) × (get_or bs 1 0 ≡ 83) × (get_or bs 2 0 ≡ 70)
-  unfolding not_aRecord_file
+  unfolding not_a_record_file
   has_header =
       let p = neither (ltb (length bs) header_length) _ a.is_script in
       let q = all_three (eqb (get_or bs 0 0) 87) (eqb (get_or bs 1 0) 83) (eqb (get_or bs 2 0) 70) (not-false _ p.1) in

@@ -12,7 +12,7 @@ use Rattle.records.specs.Records.{every, every_from}
 use Rattle.records.specs.Record.{header_of, header_bytes}
 use Rattle.records.specs.Tree.{Trees, count}
 use Rattle.records.specs.File.{File, Initializer, bare, given, Declarator, Statement, declaration, expression, other, one, initializers, is_given, declarator_records, kind_number, declarators_in, statement_number, statement_record, statement_records, all_declarators, initializer_tree, initializer_trees, statement_trees, all_trees, header_for, file_length, print}
-use Rattle.records.specs.Header.{not_aRecord_file, other_version, other_length}
+use Rattle.records.specs.Header.{not_a_record_file, other_version, other_length}
 use Rattle.records.specs.Script.{good_statement, declarator_sum}
 use Rattle.records.specs.Place.{expressions}
 use Rattle.records.proofs.Tests.{every_more}
@@ -22,8 +22,8 @@ use Rattle.records_laws.proofs.PrintedFile.{printed_header, printed_length}
 
 module _ (f : File) where
   -- row 1: the letters
-  pub printed_script : not_aRecord_file (print f) ≡ false
-  unfolding not_aRecord_file print header_bytes
+  pub printed_script : not_a_record_file (print f) ≡ false
+  unfolding not_a_record_file print header_bytes
   printed_script = rw (le-ltb (length (print f)) header_length (omega (arith, printed_length f)))
 
   -- row 2: the version

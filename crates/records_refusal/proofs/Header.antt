@@ -6,7 +6,7 @@ use Prim.Native.Nat.{ℕ, ◌<◌}
 use native.Mathlib.Omega.{arith}
 use lib.Dec.{ltb}
 use Rattle.records.specs.Record.{header_of}
-use Rattle.records.specs.Header.{not_aRecord_file, other_version, outside_limits, other_length}
+use Rattle.records.specs.Header.{not_a_record_file, other_version, outside_limits, other_length}
 use Rattle.records.specs.Tree.{forest_of}
 use Rattle.records.specs.File.{names_of, scopes_of, frames_of, nodes_of, declarators_of, statements_of}
 use Rattle.records.specs.Facts.{bad_facts}
@@ -34,7 +34,7 @@ one-refuses false false false true later h = refl
 one-refuses false false false false later h = absurd (omega arith)
 
 -- the rows by the tests of the code
-pub header_tested : (bs : List ℕ) (h : Header) (a b c : Bool) → a ≡ not_aRecord_file bs → h ≡ header_of bs → b ≡ other_version h → c ≡ outside_limits h
+pub header_tested : (bs : List ℕ) (h : Header) (a b c : Bool) → a ≡ not_a_record_file bs → h ≡ header_of bs → b ≡ other_version h → c ≡ outside_limits h
     → row 1 a (row 2 b (row 3 c (row 4 (other_length bs h) 0))) ≡ header_refusal bs
 unfolding header_refusal
 header_tested bs h a b c ea eh eb ec = rw (ea, eb, ec, eh)
@@ -43,13 +43,13 @@ module _ (bs : List ℕ) (number : ℕ) (e : number ≡ header_refusal bs) where
   pub header_passes : number ≡ 0 → HeaderPasses bs (header_of bs)
   unfolding header_refusal
   header_passes z =
-      let p = none-refuses (not_aRecord_file bs) (other_version (header_of bs)) (outside_limits (header_of bs)) (other_length bs (header_of bs)) (sym e ∙ z) in
+      let p = none-refuses (not_a_record_file bs) (other_version (header_of bs)) (outside_limits (header_of bs)) (other_length bs (header_of bs)) (sym e ∙ z) in
       record { is = refl; script = p.0; version = p.1; limits = p.2; measured = p.3 }
 
   pub header_refuses : 0 < number → (room : ℕ) → number ≡ refusal bs room
   unfolding header_refusal refusal
   header_refuses h room =
-      e ∙ one-refuses (not_aRecord_file bs) (other_version (header_of bs)) (outside_limits (header_of bs)) (other_length bs (header_of bs)) _ (omega (arith, h, e))
+      e ∙ one-refuses (not_a_record_file bs) (other_version (header_of bs)) (outside_limits (header_of bs)) (other_length bs (header_of bs)) _ (omega (arith, h, e))
 
 -- the rows behind those of the header, where the first and the last of them are tested
 pub rows-tested : (bs : List ℕ) (h : Header) (room : ℕ) (first last : Bool) → HeaderPasses bs h → first ≡ bad_facts (names_of bs) (scopes_of bs) (frames_of bs)

@@ -12,7 +12,7 @@ use Rattle.records.specs.Records.{every}
 use Rattle.records.specs.Flags.{unresolved}
 use Rattle.records.specs.Record.{header_of, name_at}
 use Rattle.records.specs.File.{file_length, names_of, declarators_of, statements_of}
-use Rattle.records.specs.Header.{not_aRecord_file, outside_limits, other_length, counts_fit, options_known, header_scopes}
+use Rattle.records.specs.Header.{not_a_record_file, outside_limits, other_length, counts_fit, options_known, header_scopes}
 use Rattle.records.specs.Script.{good_declarator, good_declarator_of, good_statement, flags_of, bad_statements}
 use Rattle.records.specs.declared.layout.Header.{Header}
 use Rattle.records.specs.declared.layout.NameFacts.{NameFacts}
@@ -23,8 +23,8 @@ use Rattle.records.proofs.Tests.{and_left, and_right, neither, every_weaker}
 use Rattle.records_rows.specs.Tally.{fits}
 
 -- row 1
-pub long-enough : (bs : List ℕ) → not_aRecord_file bs ≡ false → 24 ≤ length bs
-unfolding not_aRecord_file
+pub long-enough : (bs : List ℕ) → not_a_record_file bs ≡ false → 24 ≤ length bs
+unfolding not_a_record_file
 long-enough bs e = ltb-false (length bs) 24 (neither (ltb (length bs) 24) _ e).0
 
 -- row 3

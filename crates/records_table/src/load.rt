@@ -18,7 +18,7 @@ pub fn load_tree(
     nodes_used: usize,
 ) -> usize
     requires room { HasRoom file.now nodes_start tree.0 nodes.old nodes_used }
-    ensures tree { let file = file.entry.now in
+    ensures tree { let file = file.now in
         Loads file nodes_start tree.0 nodes.old nodes.new nodes_used result }
     ensures length { length nodes.new ≡ length nodes.old }
 {

@@ -1,6 +1,6 @@
 // Rows 1 to 4 of the refusal table: letters, version, limits, length.
 ghost use Rattle.std.specs.Prelude.{◌≡◌};
-ghost use Rattle.records.specs.Header.{not_aRecord_file, other_version, outside_limits, other_length};
+ghost use Rattle.records.specs.Header.{not_a_record_file, other_version, outside_limits, other_length};
 
 use records::flags::OPTIONS_LIMIT;
 use records::layout::Header;
@@ -13,7 +13,7 @@ use records::parts::part_offsets;
 
 // Row 1.
 pub fn not_a_record_file(file: &[u8]) -> bool
-    ensures result { result ≡ not_aRecord_file file.now }
+    ensures result { result ≡ not_a_record_file file.now }
 {
     if file.len() < HEADER_LENGTH {
         return true;

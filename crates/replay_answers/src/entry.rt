@@ -1,5 +1,7 @@
 // The entries of a list of answers.
-ghost use Rattle.std.specs.Prelude.{◌+◌, ◌≤◌, length, IfOk};
+ghost use Rattle.std.specs.Prelude.{◌+◌, ◌≤◌, length, IfOk, ◌≢◌, IfErr};
+ghost use Rattle.std.specs.IoError.{error_kind};
+ghost use Rattle.std.specs.declared.io.ErrorKind.TheVariants.{UnexpectedEof};
 
 use crate::segment::{fill, read_whole};
 use records::copy::copy;
@@ -122,6 +124,7 @@ fn fill_or_copy(
     requires place { place + 4 ≤ 40 }
     requires from { count ≤ length from.now }
     requires to { count ≤ length to.old }
+    ensures err { IfErr result (λ e. error_kind e ≢ UnexpectedEof) }
 {
     if number_at(head, place) == SAME {
         copy(&from[..count], to);
@@ -130,7 +133,8 @@ fn fill_or_copy(
     fill(reader, to, count)
 }
 
-// Reads the next entry: its file, the fold's result and the repeat's, each to the start of its buffer.
+// Reads the next entry: its file, the fold's result and the repeat's, each to the start of its buffer. An error is the reader's, and no
+// end of the list; head and buffers may then have some of what was read.
 pub fn read_entry(
     reader: &mut impl Read,
     head: &mut [u8; 40],
@@ -145,6 +149,7 @@ pub fn read_entry(
     ensures length { IfOk result (λ e. e.length ≤ 65536) }
     ensures result_length { IfOk result (λ e. e.result ≤ 65536) }
     ensures steady_length { IfOk result (λ e. e.steady ≤ 65536) }
+    ensures err { IfErr result (λ e. error_kind e ≢ UnexpectedEof) }
 {
     let whole = read_whole(reader, head)?;
     let mut e = entry_of(head);

@@ -1,5 +1,7 @@
 // The segments of an entry: bytes that stand so many times.
-ghost use Rattle.std.specs.Prelude.{◌+◌, ◌≤◌, length};
+ghost use Rattle.std.specs.Prelude.{◌+◌, ◌≤◌, ◌≢◌, length, IfErr};
+ghost use Rattle.std.specs.IoError.{error_kind};
+ghost use Rattle.std.specs.declared.io.ErrorKind.TheVariants.{UnexpectedEof};
 
 use crate::entry::number_at;
 use std::io;
@@ -34,8 +36,11 @@ fn repeat(buf: &mut [u8], at: usize, period: usize, end: usize)
     }
 }
 
-// Fills the buffer; false if the list ends before.
-pub fn read_whole(reader: &mut impl Read, buf: &mut [u8]) -> io::Result<bool> {
+// Fills the buffer; false if the list ends before. An error is the reader's, and no end of the list; the buffer may then have
+// some of what was read.
+pub fn read_whole(reader: &mut impl Read, buf: &mut [u8]) -> io::Result<bool>
+    ensures err { IfErr result (λ e. error_kind e ≢ UnexpectedEof) }
+{
     match reader.read_exact(buf) {
         Ok(()) => Ok(true),
         Err(e) if e.kind() == ErrorKind::UnexpectedEof => Ok(false),
@@ -43,9 +48,11 @@ pub fn read_whole(reader: &mut impl Read, buf: &mut [u8]) -> io::Result<bool> {
     }
 }
 
-// Reads segments to the start of `buf` until so many bytes are there; false if the list doesn't have them.
+// Reads segments to the start of `buf` until so many bytes are there; false if the list doesn't have them. An error is the
+// reader's, as in `read_whole`.
 pub fn fill(reader: &mut impl Read, buf: &mut [u8], count: usize) -> io::Result<bool>
     requires room { count ≤ length buf.old }
+    ensures err { IfErr result (λ e. error_kind e ≢ UnexpectedEof) }
 {
     let mut head = [0u8; 8];
     let mut at = 0;

@@ -1,11 +1,11 @@
 use borrow.Author.Tests.{lt-ltb, le-ltb}
-use Rattle.records.specs.Header.{not_aRecord_file}
+use Rattle.records.specs.Header.{not_a_record_file}
 use Rattle.records_tests.proofs.header.not_a_record_file.Goals as goal
 
 pub returns-then-file-lt-HEADER_LENGTH : goal.returns-then-file-lt-HEADER_LENGTH
-unfolding not_aRecord_file
+unfolding not_a_record_file
 returns-then-file-lt-HEADER_LENGTH c = record { result = rw (lt-ltb _ _ c.if-file-lt-HEADER_LENGTH.true) }
 
 pub returns : goal.returns
-unfolding not_aRecord_file
+unfolding not_a_record_file
 returns c = record { result = rw (le-ltb _ _ c.if-file-lt-HEADER_LENGTH.false) }

@@ -1,0 +1,20 @@
+// The input, read to a buffer.
+ghost use Rattle.std.specs.Prelude.{◌≤◌, length, IfOk};
+
+use std::io;
+use std::io::Read;
+
+// Reads until the buffer is full or the input ends; how many bytes these are.
+pub fn read_full(reader: &mut impl Read, buf: &mut [u8]) -> io::Result<usize>
+    ensures within { IfOk result (λ n. n ≤ length buf.old) }
+{
+    let mut at = 0;
+    while at < buf.len() {
+        let n = reader.read(&mut buf[at..])?;
+        if n == 0 {
+            return Ok(at);
+        }
+        at += n;
+    }
+    Ok(at)
+}
