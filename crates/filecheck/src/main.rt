@@ -1,7 +1,7 @@
 // Reads a record file from standard input and prints `accepted`, or `refused` with the number of the row that refuses it.
 #![tactic(auto)]
 
-use program_lines::input::read_full;
+use program_lines::input::{BUFFER_LENGTH, read_full};
 use records_refusal::check::refusal;
 use records_refusal::outcome::number_of;
 use std::io;
@@ -19,7 +19,7 @@ fn report(rt: &impl Print, file: &[u8]) -> io::Result<()> {
 
 // No accepted file is longer than 42,248 bytes: of a longer input the first 65,536 get the number of the whole.
 fn main(rt: HostRuntime) -> io::Result<()> {
-    let mut buf = [0u8; ROOM];
+    let mut buf = [0u8; BUFFER_LENGTH];
     let n = read_full(&mut rt.reader(), &mut buf)?;
     report(&rt, &buf[..n])
 }

@@ -5,7 +5,7 @@
 mod list;
 
 use list::print_result;
-use program_lines::input::read_full;
+use program_lines::input::{BUFFER_LENGTH, read_full};
 use statements_fold::{FoldAnswer, fold};
 use std::io;
 
@@ -23,8 +23,8 @@ fn report(rt: &impl Print, file: &[u8], output: &mut [u8]) -> io::Result<()> {
 // No accepted file is longer than 42,248 bytes, nor wants more room: of a longer input the first 65,536 get the number of
 // the whole.
 fn main(rt: HostRuntime) -> io::Result<()> {
-    let mut file = [0u8; 65536];
-    let mut output = [0u8; 65536];
+    let mut file = [0u8; BUFFER_LENGTH];
+    let mut output = [0u8; BUFFER_LENGTH];
     let n = read_full(&mut rt.reader(), &mut file)?;
     report(&rt, &file[..n], &mut output)
 }

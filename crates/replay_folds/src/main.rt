@@ -10,6 +10,7 @@ mod returned;
 mod totals;
 
 use output::{other_bytes, prepare};
+use program_lines::input::BUFFER_LENGTH;
 use replay_answers::compare::compare;
 use replay_answers::entry::{Entry, HEAD_LENGTH, read_entry};
 use returned::{MeasuredNumbers, Replayed, Returned, measured_for, returned_for, steady_for};
@@ -129,10 +130,10 @@ fn replay_in(
 fn main(rt: HostRuntime) -> io::Result<()> {
     let mut reader = rt.reader();
     let mut head = [0u8; HEAD_LENGTH];
-    let mut file = [0u8; 65536];
-    let mut result = [0u8; 65536];
-    let mut steady = [0u8; 65536];
-    let mut output = [0u8; 65536];
+    let mut file = [0u8; BUFFER_LENGTH];
+    let mut result = [0u8; BUFFER_LENGTH];
+    let mut steady = [0u8; BUFFER_LENGTH];
+    let mut output = [0u8; BUFFER_LENGTH];
     let mut totals = AllTotals::new();
     let mut entry = 0;
     while entry < 1000000 {

@@ -6,6 +6,7 @@ ghost use Rattle.std.specs.Prelude.{◌≤◌, length};
 
 mod tally;
 
+use program_lines::input::BUFFER_LENGTH;
 use records_refusal::check::refusal;
 use records_refusal::outcome::number_of;
 use replay_answers::compare::compare;
@@ -48,9 +49,9 @@ fn replay(
 fn main(rt: HostRuntime) -> io::Result<()> {
     let mut reader = rt.reader();
     let mut head = [0u8; HEAD_LENGTH];
-    let mut file = [0u8; 65536];
-    let mut result = [0u8; 65536];
-    let mut steady = [0u8; 65536];
+    let mut file = [0u8; BUFFER_LENGTH];
+    let mut result = [0u8; BUFFER_LENGTH];
+    let mut steady = [0u8; BUFFER_LENGTH];
     let mut counts = [0usize; 12];
     let mut entry = 0;
     while entry < 1000000 {

@@ -60,6 +60,10 @@ header_counts h e =
 pub header_limits : (bytes : List ℕ) (h : Header) → HeaderPasses bytes h → (h.declarators ≤ 500) × (h.statements ≤ 500)
 header_limits bytes h p = let (a, b, d) = header_counts h p.limits in (b, d)
 
+-- what the core asks of a header that is the bytes' own, and of the two lists
+pub core_asks : (bytes : List ℕ) (h : Header) → h ≡ header_of bytes → HeaderPasses bytes (header_of bytes) → HeaderPasses bytes h × ((h.declarators ≤ 500) × (h.statements ≤ 500))
+core_asks bytes h e q = let p = subst (HeaderPasses bytes) (sym e) q in (p, header_limits bytes h p)
+
 -- A file that no row refuses.
 pub none-refuses : (bytes : List ℕ) (room number : ℕ) → number ≡ refusal bytes room → number ≡ 0 → refusal bytes room ≡ 0
 none-refuses bytes room number e z = sym e ∙ z

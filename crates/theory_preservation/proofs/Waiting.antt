@@ -21,10 +21,7 @@ module _ {Value Rest : Type 0} (σ : Setting Value Rest) where
   abbrev S : Type 0
   S = State Value Rest
 
-  abbrev O : Type 0 → Type 0
-  O A = Out Value Rest A
-
-  abbrev Why : {A : Type 0} → S → (S → O A) → Type 0
+  abbrev Why : {A : Type 0} → S → (S → Out Value Rest A) → Type 0
   Why s c = Reason σ s c
 
   abbrev names : List NameFacts

@@ -1,11 +1,10 @@
-use mathlib.Core.Path.{sym, ◌∙◌, subst}
+use mathlib.Core.Path.{◌∙◌}
 use native.Mathlib.Omega.{arith}
 use lib.ListN.{length}
-use Rattle.records_refusal.specs.Passing.{HeaderPasses}
 use Rattle.records_refusal.proofs.Limits.{long-enough}
 use Rattle.records_refusal.proofs.Header.{header_passes, header_refuses}
 use Rattle.theory_demands.proofs.Acceptance.{result-accepted}
-use Rattle.statements_fold.proofs.Returning.{returns_refused, header_limits, written-refused, written-folded}
+use Rattle.statements_fold.proofs.Returning.{returns_refused, core_asks, written-refused, written-folded}
 use Rattle.statements_fold.proofs.fold.Goals as goal
 
 pub returns-then-row-gt0 : goal.returns-then-row-gt0
@@ -20,9 +19,8 @@ header_of-h-requires c = record { room = long-enough c.args.file.now (header_pas
 
 pub fold_records-r-requires : goal.fold_records-r-requires
 fold_records-r-requires c =
-    let p = subst (HeaderPasses c.args.file.now) (sym c.header_of-h.ensures.result) (header_passes c.args.file.now _ c.header_refusal.ensures.result (omega (arith, c.if-row-gt0.false, c.number_of-row.ensures.result))) in
-    let (b, d) = header_limits c.args.file.now c.header_of-h.result p in
-    record { header = p; folded = omega (arith, b); kept = omega (arith, d) }
+    let (p, few) = core_asks c.args.file.now c.header_of-h.result c.header_of-h.ensures.result (header_passes c.args.file.now _ c.header_refusal.ensures.result (omega (arith, c.if-row-gt0.false, c.number_of-row.ensures.result))) in
+    record { header = p; folded = few.0; kept = few.1 }
 
 pub returns-then-r-gt0 : goal.returns-then-r-gt0
 returns-then-r-gt0 c =

@@ -4,10 +4,9 @@ use lib.ListN.{length}
 use Rattle.records.specs.File.{file_length}
 use Rattle.records.specs.Refusal.{room_wanted}
 use Rattle.records.specs.declared.layout.Header.{Header}
-use Rattle.records_refusal.specs.Passing.{HeaderPasses}
 use Rattle.records_refusal.proofs.Limits.{long-enough, length_said}
 use Rattle.records_refusal.proofs.Header.{header_passes, header_refuses}
-use Rattle.statements_fold.proofs.Returning.{header_limits}
+use Rattle.statements_fold.proofs.Returning.{core_asks}
 use Rattle.statements_measure.proofs.Returning.{with_laws, returns_refused, outcome-refused, outcome-measured}
 use Rattle.statements_measure.proofs.measure.Goals as goal
 
@@ -26,9 +25,8 @@ room_wanted-room-requires c =
 
 pub fold_records-r-requires : goal.fold_records-r-requires
 fold_records-r-requires c =
-    let p = subst (HeaderPasses c.args.file.now) (sym c.header_of-h.ensures.result) (header_passes c.args.file.now _ c.header_refusal.ensures.result (omega (arith, c.if-row-gt0.false, c.number_of-row.ensures.result))) in
-    let (b, d) = header_limits c.args.file.now c.header_of-h.result p in
-    record { header = p; folded = omega (arith, b); kept = omega (arith, d) }
+    let (p, few) = core_asks c.args.file.now c.header_of-h.result c.header_of-h.ensures.result (header_passes c.args.file.now _ c.header_refusal.ensures.result (omega (arith, c.if-row-gt0.false, c.number_of-row.ensures.result))) in
+    record { header = p; folded = few.0; kept = few.1 }
 
 pub returns-then-r-gt0 : goal.returns-then-r-gt0
 returns-then-r-gt0 c =

@@ -1,10 +1,8 @@
-use mathlib.Core.Path.{sym, subst}
-use native.Mathlib.Omega.{arith}
+use mathlib.Core.Path.{sym}
 use lib.Seq.{length-take-le}
-use Rattle.records_refusal.specs.Passing.{HeaderPasses}
 use Rattle.records_refusal.proofs.Limits.{long-enough}
 use Rattle.statements_fold.proofs.Core.{by_definition}
-use Rattle.statements_fold.proofs.Returning.{header_limits}
+use Rattle.statements_fold.proofs.Returning.{core_asks}
 use Rattle.statements_steady.proofs.Running.{run_is}
 use Rattle.statements_steady.proofs.run.fold_once.Goals as goal
 
@@ -13,9 +11,8 @@ header_of-h-requires c = record { room = long-enough c.args.file.now c.requires.
 
 pub fold_records-r-requires : goal.fold_records-r-requires
 fold_records-r-requires c =
-    let p = subst (HeaderPasses c.args.file.now) (sym c.header_of-h.ensures.result) c.requires.header in
-    let (b, d) = header_limits c.args.file.now c.header_of-h.result p in
-    record { header = p; folded = omega (arith, b); kept = omega (arith, d) }
+    let (p, few) = core_asks c.args.file.now c.header_of-h.result c.header_of-h.ensures.result c.requires.header in
+    record { header = p; folded = few.0; kept = few.1 }
 
 pub slice_bounds-same_bytes-end : goal.slice_bounds-same_bytes-end
 slice_bounds-same_bytes-end c =

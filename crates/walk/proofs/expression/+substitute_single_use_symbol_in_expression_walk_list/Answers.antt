@@ -1,10 +1,13 @@
 -- The calls of the walk and of the list walk, and what both return, by the laws of `Cycle`.
-use Prim.Native.Nat.{◌+◌, ◌*◌, ◌≤◌}
+use Prim.Native.Nat.{ℕ, ◌+◌, ◌-◌, ◌*◌, ◌≤◌, ◌<◌}
 use native.Mathlib.Omega.{arith}
 use mathlib.Core.Bool.{false}
 use mathlib.Core.Path.{refl, sym, ap, ◌∙◌}
 use lib.ListN.{length}
 use Rattle.records.specs.File.{read}
+use Rattle.records.specs.Tree.{sizes}
+use Rattle.records_table.specs.Laid.{forest_at}
+use Rattle.walk_arms.specs.Search.{SearchableForest}
 use Rattle.walk_rules.specs.Context.{context_of}
 use Rattle.walk_arms.specs.declared.arms.Plan.TheVariants.{All}
 use Rattle.walk_arms.specs.Answers.{is_replaced}
@@ -12,9 +15,58 @@ use Rattle.walk.specs.declared.forest.Forest.{Forest}
 use Rattle.walk.proofs.OtherAnswers.{unpassed}
 use Rattle.walk.proofs.Searching.{SeeksForest, searchable-room, forest_stands, searches, searches_forest, sought_forest, here_found, tag-here, node-searched}
 use Rattle.walk.proofs.Rest.{goes_further}
+use Rattle.walk.specs.Forests.{GoesOn}
+use Rattle.records.specs.declared.layout.NodeId.{NodeId}
+use Rattle.walk_arms.specs.declared.arms.Plan.{Plan}
 use Rattle.walk.proofs.Cycle.{is_one_of, one_seek, came, forest_looks-most, rest-searchable, first_child, others-searchable, list_none, list_nothing, list_replaced, list_stopped, list_branches, list_next, list_call, child_call, list_looks, next-looks}
 use Rattle.walk.proofs.expression.+substitute_single_use_symbol_in_expression_walk_list.Goals as goal
-use Rattle.walk.proofs.expression.+substitute_single_use_symbol_in_expression_walk_list.Goals.{substitute_single_use_symbol_in_expression-then-is_one, substitute_single_use_symbol_in_expression-else-is_one}
+use Rattle.walk.proofs.expression.+substitute_single_use_symbol_in_expression_walk_list.Goals.{
+  substitute_single_use_symbol_in_expression-Joined-is_one,
+  substitute_single_use_symbol_in_expression-then-is_one,
+  substitute_single_use_symbol_in_expression-else-is_one,
+  walk_list-After-pass_small-forest,
+  walk_list-Else-is_replaced,
+}
+
+-- the children were searched, by the walk where there is one, else by the list walk
+searched_children : (t : ℕ) (c : substitute_single_use_symbol_in_expression-Joined-is_one t)
+    → SeeksForest (context_of (read c.args.file.now)) c.args.replacement c.args.nodes.now c.if-is_one.nodes c.begin-begun.result.next.0 c.begin-begun.result.trees c.begin-begun.result.plan c.if-is_one.children
+searched_children t c =
+    let ctx = context_of (read c.args.file.now) in
+    elim c.if-is_one.branch [
+      | substitute_single_use_symbol_in_expression-then-is_one w ↦
+          let one = is_one_of c.begin-begun.result.trees c.begin-begun.result.plan (sym c.is_one.ensures.result ∙ w.if-is_one.true) in
+          came ctx c.args.replacement c.begin-begun.result.plan w.nodes-is w.children-is
+          (one_seek ctx c.args.replacement c.begin-begun.result.trees c.begin-begun.result.plan one.0 one.1 w.substitute_single_use_symbol_in_expression-children.ensures.result)
+      | substitute_single_use_symbol_in_expression-else-is_one w ↦
+          came ctx c.args.replacement c.begin-begun.result.plan w.nodes-is w.children-is
+          (sought_forest ctx c.args.replacement _ _ _ _ c.begin-begun.result.plan _ w.walk_list-children.ensures.result)
+    ]
+
+-- what the list walk begins with
+abbrev starting : NodeId → ℕ → Plan → Forest
+starting at many plan = record { next = at; trees = many; plan = plan; effect = false; looks = 0 }
+
+-- it has gone on to where the next tree isn't small
+gone_on : (t : ℕ) (c : walk_list-After-pass_small-forest t)
+    → GoesOn (context_of (read c.args.file.now)) c.args.replacement c.args.nodes.now c.loop-replacement.nodes (starting c.args.at c.args.many c.args.plan) c.pass_small-forest.result
+gone_on t c =
+    goes_further (context_of (read c.args.file.now)) c.args.replacement c.args.nodes.now c.loop-replacement.nodes c.loop-replacement.nodes (starting c.args.at c.args.many c.args.plan) c.loop-replacement.forest c.pass_small-forest.result c.loop-replacement.invariant.0 c.pass_small-forest.ensures.result
+
+-- the trees that are left can be searched, and are no more than all
+rest_left : (t : ℕ) (c : walk_list-After-pass_small-forest t)
+    → SearchableForest c.loop-replacement.nodes c.pass_small-forest.result.next.0 c.pass_small-forest.result.trees
+    × (sizes (forest_at c.loop-replacement.nodes c.pass_small-forest.result.next.0 c.pass_small-forest.result.trees) ≤ sizes (forest_at c.args.nodes.now c.args.at.0 c.args.many))
+rest_left t c =
+    rest-searchable (context_of (read c.args.file.now)) c.args.replacement (starting c.args.at c.args.many c.args.plan) c.pass_small-forest.result (gone_on t c) c.requires.described c.requires.trees
+
+-- so can those behind the first of them, and they are fewer
+others_left : (t : ℕ) (c : walk_list-Else-is_replaced t) → SearchableForest c.loop-replacement.nodes c.pass_small-forest.result.next.0 c.pass_small-forest.result.trees
+    → SearchableForest c.substitute_single_use_symbol_in_expression-first.new.nodes c.substitute_single_use_symbol_in_expression-first.result.end.0 (c.pass_small-forest.result.trees - 1)
+    × (sizes (forest_at c.substitute_single_use_symbol_in_expression-first.new.nodes c.substitute_single_use_symbol_in_expression-first.result.end.0 (c.pass_small-forest.result.trees - 1)) < sizes (forest_at c.loop-replacement.nodes c.pass_small-forest.result.next.0 c.pass_small-forest.result.trees))
+others_left t c rest =
+    others-searchable (context_of (read c.args.file.now)) c.args.replacement c.substitute_single_use_symbol_in_expression-first.ensures.result c.requires.described c.if-trees-eq0.false
+    (sym c.is_replaced.ensures.result ∙ c.if-is_replaced.false) rest
 
 pub substitute_single_use_symbol_in_expression-work_node-n-requires : goal.substitute_single_use_symbol_in_expression-work_node-n-requires
 substitute_single_use_symbol_in_expression-work_node-n-requires t c =
@@ -62,16 +114,7 @@ pub substitute_single_use_symbol_in_expression-of_children-requires-clause-looks
 substitute_single_use_symbol_in_expression-of_children-requires-clause-looks t c =
     let ctx = context_of (read c.args.file.now) in
     let kids = list_call ctx c.begin-begun.ensures.result c.requires.described c.requires.tree in
-    let searched : SeeksForest ctx c.args.replacement c.args.nodes.now c.if-is_one.nodes c.begin-begun.result.next.0 c.begin-begun.result.trees c.begin-begun.result.plan c.if-is_one.children
-    = elim c.if-is_one.branch [
-      | substitute_single_use_symbol_in_expression-then-is_one w ↦
-          let one = is_one_of c.begin-begun.result.trees c.begin-begun.result.plan (sym c.is_one.ensures.result ∙ w.if-is_one.true) in
-          came ctx c.args.replacement c.begin-begun.result.plan w.nodes-is w.children-is
-          (one_seek ctx c.args.replacement c.begin-begun.result.trees c.begin-begun.result.plan one.0 one.1 w.substitute_single_use_symbol_in_expression-children.ensures.result)
-      | substitute_single_use_symbol_in_expression-else-is_one w ↦
-          came ctx c.args.replacement c.begin-begun.result.plan w.nodes-is w.children-is
-          (sought_forest ctx c.args.replacement _ _ _ _ c.begin-begun.result.plan _ w.walk_list-children.ensures.result)
-    ] in
+    let searched = searched_children t (goal.at.substitute_single_use_symbol_in_expression-of_children-requires-clause-looks t c).Joined-is_one in
     omega (
       arith,
       forest_looks-most ctx {table' = c.if-is_one.nodes} c.begin-begun.result.plan {r = c.if-is_one.children} searched c.requires.described kids.0,
@@ -81,16 +124,7 @@ substitute_single_use_symbol_in_expression-of_children-requires-clause-looks t c
 pub substitute_single_use_symbol_in_expression-returns : goal.substitute_single_use_symbol_in_expression-returns
 substitute_single_use_symbol_in_expression-returns t c =
     let ctx = context_of (read c.args.file.now) in
-    let searched : SeeksForest ctx c.args.replacement c.args.nodes.now c.if-is_one.nodes c.begin-begun.result.next.0 c.begin-begun.result.trees c.begin-begun.result.plan c.if-is_one.children
-    = elim c.if-is_one.branch [
-      | substitute_single_use_symbol_in_expression-then-is_one w ↦
-          let one = is_one_of c.begin-begun.result.trees c.begin-begun.result.plan (sym c.is_one.ensures.result ∙ w.if-is_one.true) in
-          came ctx c.args.replacement c.begin-begun.result.plan w.nodes-is w.children-is
-          (one_seek ctx c.args.replacement c.begin-begun.result.trees c.begin-begun.result.plan one.0 one.1 w.substitute_single_use_symbol_in_expression-children.ensures.result)
-      | substitute_single_use_symbol_in_expression-else-is_one w ↦
-          came ctx c.args.replacement c.begin-begun.result.plan w.nodes-is w.children-is
-          (sought_forest ctx c.args.replacement _ _ _ _ c.begin-begun.result.plan _ w.walk_list-children.ensures.result)
-    ] in
+    let searched = searched_children t (goal.at.substitute_single_use_symbol_in_expression-returns t c).Joined-is_one in
     record {
       result =
           searches ctx c.args.replacement c.args.nodes.now _ c.args.at.0 _ c.requires.tree
@@ -101,7 +135,7 @@ substitute_single_use_symbol_in_expression-returns t c =
 pub walk_list-pass_small-forest-requires-clause-looks : goal.walk_list-pass_small-forest-requires-clause-looks
 walk_list-pass_small-forest-requires-clause-looks t c =
     let ctx = context_of (read c.args.file.now) in
-    let start : Forest = record { next = c.args.at; trees = c.args.many; plan = c.args.plan; effect = false; looks = 0 } in
+    let start = starting c.args.at c.args.many c.args.plan in
     omega (
       arith,
       list_looks ctx c.args.replacement start c.loop-replacement.forest c.loop-replacement.invariant.0 refl c.requires.described c.requires.trees,
@@ -111,9 +145,7 @@ walk_list-pass_small-forest-requires-clause-looks t c =
 pub walk_list-returns-then-trees-eq0 : goal.walk_list-returns-then-trees-eq0
 walk_list-returns-then-trees-eq0 t c =
     let ctx = context_of (read c.args.file.now) in
-    let start : Forest = record { next = c.args.at; trees = c.args.many; plan = c.args.plan; effect = false; looks = 0 } in
-    let on =
-    goes_further ctx c.args.replacement c.args.nodes.now c.loop-replacement.nodes c.loop-replacement.nodes start c.loop-replacement.forest c.pass_small-forest.result c.loop-replacement.invariant.0 c.pass_small-forest.ensures.result in
+    let on = gone_on t (goal.at.walk_list-returns-then-trees-eq0 t c).After-pass_small-forest in
     record {
       result =
           searches_forest ctx c.args.replacement c.args.nodes.now c.loop-replacement.nodes c.args.at.0 c.args.many c.args.plan _ c.requires.trees
@@ -123,9 +155,7 @@ walk_list-returns-then-trees-eq0 t c =
 pub walk_list-returns-then-is_nothing : goal.walk_list-returns-then-is_nothing
 walk_list-returns-then-is_nothing t c =
     let ctx = context_of (read c.args.file.now) in
-    let start : Forest = record { next = c.args.at; trees = c.args.many; plan = c.args.plan; effect = false; looks = 0 } in
-    let on =
-    goes_further ctx c.args.replacement c.args.nodes.now c.loop-replacement.nodes c.loop-replacement.nodes start c.loop-replacement.forest c.pass_small-forest.result c.loop-replacement.invariant.0 c.pass_small-forest.ensures.result in
+    let on = gone_on t (goal.at.walk_list-returns-then-is_nothing t c).After-pass_small-forest in
     record {
       result =
           searches_forest ctx c.args.replacement c.args.nodes.now c.loop-replacement.nodes c.args.at.0 c.args.many c.args.plan _ c.requires.trees
@@ -135,20 +165,16 @@ walk_list-returns-then-is_nothing t c =
 
 pub walk_list-substitute_single_use_symbol_in_expression-first-requires : goal.walk_list-substitute_single_use_symbol_in_expression-first-requires
 walk_list-substitute_single_use_symbol_in_expression-first-requires t c =
-    let ctx = context_of (read c.args.file.now) in
-    let start : Forest = record { next = c.args.at; trees = c.args.many; plan = c.args.plan; effect = false; looks = 0 } in
-    let on =
-    goes_further ctx c.args.replacement c.args.nodes.now c.loop-replacement.nodes c.loop-replacement.nodes start c.loop-replacement.forest c.pass_small-forest.result c.loop-replacement.invariant.0 c.pass_small-forest.ensures.result in
-    let rest = rest-searchable ctx c.args.replacement start c.pass_small-forest.result on c.requires.described c.requires.trees in
+    let at = goal.at.walk_list-substitute_single_use_symbol_in_expression-first-requires t c in
+    let rest = rest_left t at.After-pass_small-forest in
     let first = first_child c.if-trees-eq0.false rest.0 in
     (omega (arith, c.decreases, first.1, rest.1), (c.requires.whole, (first.0, c.requires.described)))
 
 pub walk_list-overflow_add-looks : goal.walk_list-overflow_add-looks
 walk_list-overflow_add-looks t c =
     let ctx = context_of (read c.args.file.now) in
-    let start : Forest = record { next = c.args.at; trees = c.args.many; plan = c.args.plan; effect = false; looks = 0 } in
-    let on =
-    goes_further ctx c.args.replacement c.args.nodes.now c.loop-replacement.nodes c.loop-replacement.nodes start c.loop-replacement.forest c.pass_small-forest.result c.loop-replacement.invariant.0 c.pass_small-forest.ensures.result in
+    let start = starting c.args.at c.args.many c.args.plan in
+    let on = gone_on t (goal.at.walk_list-overflow_add-looks t c).After-pass_small-forest in
     omega (
       arith,
       next-looks ctx c.args.replacement start c.pass_small-forest.result on refl c.requires.described c.requires.trees _ c.substitute_single_use_symbol_in_expression-first.result c.substitute_single_use_symbol_in_expression-first.ensures.result c.if-trees-eq0.false (sym c.is_nothing.ensures.result ∙ c.if-is_nothing.false),
@@ -158,9 +184,7 @@ walk_list-overflow_add-looks t c =
 pub walk_list-returns-then-is_replaced : goal.walk_list-returns-then-is_replaced
 walk_list-returns-then-is_replaced t c =
     let ctx = context_of (read c.args.file.now) in
-    let start : Forest = record { next = c.args.at; trees = c.args.many; plan = c.args.plan; effect = false; looks = 0 } in
-    let on =
-    goes_further ctx c.args.replacement c.args.nodes.now c.loop-replacement.nodes c.loop-replacement.nodes start c.loop-replacement.forest c.pass_small-forest.result c.loop-replacement.invariant.0 c.pass_small-forest.ensures.result in
+    let on = gone_on t (goal.at.walk_list-returns-then-is_replaced t c).After-pass_small-forest in
     record {
       result =
           searches_forest ctx c.args.replacement c.args.nodes.now _ c.args.at.0 c.args.many c.args.plan _ c.requires.trees
@@ -170,26 +194,19 @@ walk_list-returns-then-is_replaced t c =
 
 pub walk_list-walk_list-others-requires : goal.walk_list-walk_list-others-requires
 walk_list-walk_list-others-requires t c =
-    let ctx = context_of (read c.args.file.now) in
-    let start : Forest = record { next = c.args.at; trees = c.args.many; plan = c.args.plan; effect = false; looks = 0 } in
-    let on =
-    goes_further ctx c.args.replacement c.args.nodes.now c.loop-replacement.nodes c.loop-replacement.nodes start c.loop-replacement.forest c.pass_small-forest.result c.loop-replacement.invariant.0 c.pass_small-forest.ensures.result in
-    let rest = rest-searchable ctx c.args.replacement start c.pass_small-forest.result on c.requires.described c.requires.trees in
-    let others =
-    others-searchable ctx c.args.replacement c.substitute_single_use_symbol_in_expression-first.ensures.result c.requires.described c.if-trees-eq0.false
-    (sym c.is_replaced.ensures.result ∙ c.if-is_replaced.false) rest.0 in
+    let at = goal.at.walk_list-walk_list-others-requires t c in
+    let rest = rest_left t at.After-pass_small-forest in
+    let others = others_left t at.Else-is_replaced rest.0 in
     (omega (arith, c.decreases, others.1, rest.1), (c.requires.whole, (others.0, c.requires.described)))
 
 pub walk_list-overflow_add-result : goal.walk_list-overflow_add-result
 walk_list-overflow_add-result t c =
     let ctx = context_of (read c.args.file.now) in
-    let start : Forest = record { next = c.args.at; trees = c.args.many; plan = c.args.plan; effect = false; looks = 0 } in
-    let on =
-    goes_further ctx c.args.replacement c.args.nodes.now c.loop-replacement.nodes c.loop-replacement.nodes start c.loop-replacement.forest c.pass_small-forest.result c.loop-replacement.invariant.0 c.pass_small-forest.ensures.result in
-    let rest = rest-searchable ctx c.args.replacement start c.pass_small-forest.result on c.requires.described c.requires.trees in
-    let others =
-    others-searchable ctx c.args.replacement c.substitute_single_use_symbol_in_expression-first.ensures.result c.requires.described c.if-trees-eq0.false
-    (sym c.is_replaced.ensures.result ∙ c.if-is_replaced.false) rest.0 in
+    let start = starting c.args.at c.args.many c.args.plan in
+    let on = gone_on t (goal.at.walk_list-overflow_add-result t c).After-pass_small-forest in
+    let at = goal.at.walk_list-overflow_add-result t c in
+    let rest = rest_left t at.After-pass_small-forest in
+    let others = others_left t at.Else-is_replaced rest.0 in
     omega (
       arith,
       next-looks ctx c.args.replacement start c.pass_small-forest.result on refl c.requires.described c.requires.trees _ c.substitute_single_use_symbol_in_expression-first.result c.substitute_single_use_symbol_in_expression-first.ensures.result c.if-trees-eq0.false (sym c.is_nothing.ensures.result ∙ c.if-is_nothing.false),
@@ -201,9 +218,7 @@ walk_list-overflow_add-result t c =
 pub walk_list-returns-then-is_branches : goal.walk_list-returns-then-is_branches
 walk_list-returns-then-is_branches t c =
     let ctx = context_of (read c.args.file.now) in
-    let start : Forest = record { next = c.args.at; trees = c.args.many; plan = c.args.plan; effect = false; looks = 0 } in
-    let on =
-    goes_further ctx c.args.replacement c.args.nodes.now c.loop-replacement.nodes c.loop-replacement.nodes start c.loop-replacement.forest c.pass_small-forest.result c.loop-replacement.invariant.0 c.pass_small-forest.ensures.result in
+    let on = gone_on t (goal.at.walk_list-returns-then-is_branches t c).After-pass_small-forest in
     record {
       result =
           searches_forest ctx c.args.replacement c.args.nodes.now _ c.args.at.0 c.args.many c.args.plan _ c.requires.trees
@@ -214,22 +229,15 @@ walk_list-returns-then-is_branches t c =
 
 pub walk_list-pass_forest-others-requires-in_default : goal.walk_list-pass_forest-others-requires-in_default
 walk_list-pass_forest-others-requires-in_default t c =
-    let ctx = context_of (read c.args.file.now) in
-    let start : Forest = record { next = c.args.at; trees = c.args.many; plan = c.args.plan; effect = false; looks = 0 } in
-    let on =
-    goes_further ctx c.args.replacement c.args.nodes.now c.loop-replacement.nodes c.loop-replacement.nodes start c.loop-replacement.forest c.pass_small-forest.result c.loop-replacement.invariant.0 c.pass_small-forest.ensures.result in
-    let rest = rest-searchable ctx c.args.replacement start c.pass_small-forest.result on c.requires.described c.requires.trees in
-    let others =
-    others-searchable ctx c.args.replacement c.substitute_single_use_symbol_in_expression-first.ensures.result c.requires.described c.if-trees-eq0.false
-    (sym c.is_replaced.ensures.result ∙ c.if-is_replaced.false) rest.0 in
+    let at = goal.at.walk_list-pass_forest-others-requires-in_default t c in
+    let rest = rest_left t at.After-pass_small-forest in
+    let others = others_left t at.Else-is_replaced rest.0 in
     record { trees = forest_stands others.0 }
 
 pub walk_list-returns-in_default : goal.walk_list-returns-in_default
 walk_list-returns-in_default t c =
     let ctx = context_of (read c.args.file.now) in
-    let start : Forest = record { next = c.args.at; trees = c.args.many; plan = c.args.plan; effect = false; looks = 0 } in
-    let on =
-    goes_further ctx c.args.replacement c.args.nodes.now c.loop-replacement.nodes c.loop-replacement.nodes start c.loop-replacement.forest c.pass_small-forest.result c.loop-replacement.invariant.0 c.pass_small-forest.ensures.result in
+    let on = gone_on t (goal.at.walk_list-returns-in_default t c).After-pass_small-forest in
     record {
       result =
           searches_forest ctx c.args.replacement c.args.nodes.now _ c.args.at.0 c.args.many c.args.plan _ c.requires.trees
@@ -242,10 +250,9 @@ walk_list-returns-in_default t c =
 pub walk_list-loop-replacement-smaller : goal.walk_list-loop-replacement-smaller
 walk_list-loop-replacement-smaller t c =
     let ctx = context_of (read c.args.file.now) in
-    let start : Forest = record { next = c.args.at; trees = c.args.many; plan = c.args.plan; effect = false; looks = 0 } in
-    let on =
-    goes_further ctx c.args.replacement c.args.nodes.now c.loop-replacement.nodes c.loop-replacement.nodes start c.loop-replacement.forest c.pass_small-forest.result c.loop-replacement.invariant.0 c.pass_small-forest.ensures.result in
-    let rest = rest-searchable ctx c.args.replacement start c.pass_small-forest.result on c.requires.described c.requires.trees in
+    let start = starting c.args.at c.args.many c.args.plan in
+    let at = goal.at.walk_list-loop-replacement-smaller t c in
+    let rest = rest_left t at.After-pass_small-forest in
     let before = rest-searchable ctx c.args.replacement start c.loop-replacement.forest c.loop-replacement.invariant.0 c.requires.described c.requires.trees in
     rw c.forest_behind-forest.ensures.result
     (omega (
@@ -257,9 +264,8 @@ walk_list-loop-replacement-smaller t c =
 pub walk_list-loop-replacement-preserved : goal.walk_list-loop-replacement-preserved
 walk_list-loop-replacement-preserved t c =
     let ctx = context_of (read c.args.file.now) in
-    let start : Forest = record { next = c.args.at; trees = c.args.many; plan = c.args.plan; effect = false; looks = 0 } in
-    let on =
-    goes_further ctx c.args.replacement c.args.nodes.now c.loop-replacement.nodes c.loop-replacement.nodes start c.loop-replacement.forest c.pass_small-forest.result c.loop-replacement.invariant.0 c.pass_small-forest.ensures.result in (
+    let start = starting c.args.at c.args.many c.args.plan in
+    let on = gone_on t (goal.at.walk_list-loop-replacement-preserved t c).After-pass_small-forest in (
       list_next ctx c.args.replacement c.loop-replacement.nodes _ c.pass_small-forest.result c.substitute_single_use_symbol_in_expression-first.result _ c.substitute_single_use_symbol_in_expression-first.ensures.result (sym c.is_nothing.ensures.result ∙ c.if-is_nothing.false) c.in-Passed.is
           c.args.nodes.now start _ c.forest_behind-forest.result.plan c.forest_behind-forest.ensures.plan on c.if-trees-eq0.false c.forest_behind-forest.ensures.result,
       c.substitute_single_use_symbol_in_expression-first.auto.nodes ∙ c.loop-replacement.invariant.1,
