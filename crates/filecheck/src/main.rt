@@ -3,18 +3,16 @@
 
 use program_lines::input::{BUFFER_LENGTH, read_full};
 use records_refusal::check::refusal;
-use records_refusal::outcome::number_of;
 use std::io;
 
 // More than any accepted file wants.
 const ROOM: usize = 65536;
 
 fn report(rt: &impl Print, file: &[u8]) -> io::Result<()> {
-    let number = number_of(refusal(file, ROOM));
-    if number == 0 {
-        return println!(rt; "accepted");
+    match refusal(file, ROOM) {
+        Ok(()) => println!(rt; "accepted"),
+        Err(row) => println!(rt; "refused {}", u8::from(row)),
     }
-    println!(rt; "refused {number}")
 }
 
 // No accepted file is longer than 42,248 bytes: of a longer input the first 65,536 get the number of the whole.

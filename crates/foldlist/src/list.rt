@@ -1,113 +1,57 @@
 // The lines for a result, which stands at the start of `output`.
-ghost use Rattle.std.specs.Prelude.{◌+◌, ◌*◌, ◌≤◌, length};
+ghost use Rattle.std.specs.Prelude.{◌≤◌, length};
 
 use records::kinds::EXPRESSION_STATEMENT;
-use records::layout::{Header, StatementRecord, declarator_at, header_of, node_at, statement_at};
+use records::layout::{StatementRecord, declarator_at, header_of, node_at, statement_at};
 use records::limits::{DECLARATOR_LENGTH, HEADER_LENGTH, NODE_LENGTH, STATEMENT_LENGTH};
-use records::number::{one, size};
 use records::parts::part_offsets;
 use std::io;
 
-// How many of the `count` declarators from `at` on have an initializer.
-fn initializers(output: &[u8], at: usize, count: usize) -> usize
-    requires place { at ≤ length output.now }
-    ensures result { result ≤ count }
-{
-    let mut given = 0;
-    let mut next = at;
-    let mut i = 0;
-    while i < count {
-        if output.len() - next < DECLARATOR_LENGTH {
-            return given;
-        }
-        given += one(declarator_at(output, next).present == 1);
-        next += DECLARATOR_LENGTH;
-        i += 1;
-    }
-    given
-}
-
-// How many trees a statement has, whose declarators begin at `at`.
-fn trees_of(output: &[u8], at: usize, s: StatementRecord) -> usize
-    requires place { at ≤ length output.now }
-    ensures result { result ≤ 65535 }
-{
+// How many trees a statement with these declarators has: one for each initializer.
+fn trees_of(s: StatementRecord, declarators: &[[u8; DECLARATOR_LENGTH]]) -> usize {
     if s.kind == EXPRESSION_STATEMENT {
         return 1;
     }
-    initializers(output, at, size(s.declarators))
+    declarators
+        .iter()
+        .filter(|record| declarator_at(*record, 0).present == 1)
+        .count()
 }
 
-// How many nodes `trees` trees have, of which the first begins at `at`.
-fn nodes_of(output: &[u8], at: usize, trees: usize) -> usize
-    requires place { at ≤ length output.now }
-    requires trees { trees ≤ 65535 }
-    ensures result { at + 12 * result ≤ length output.now }
+// How many of these nodes the first `trees` trees have.
+fn nodes_of(nodes: &[[u8; NODE_LENGTH]], trees: usize) -> usize
+    ensures result { result ≤ length nodes.now }
 {
     let mut wanted = trees;
-    let mut next = at;
-    let mut nodes = 0;
-    while nodes < 65535 {
+    for (passed, record) in nodes.iter().enumerate() {
         if wanted == 0 {
-            return nodes;
+            return passed;
         }
-        if output.len() - next < NODE_LENGTH {
-            return nodes;
-        }
-        wanted = wanted - 1 + size(node_at(output, next).children);
-        next += NODE_LENGTH;
-        nodes += 1;
+        wanted = (wanted - 1).saturating_add(usize::from(node_at(record, 0).children));
     }
-    nodes
+    nodes.len()
 }
 
-fn print_totals(rt: &impl Print, h: Header, folds: usize) -> io::Result<()> {
-    program_lines::put(rt, b"fold ", folds)?;
-    program_lines::put(rt, b" statements ", size(h.statements))?;
-    program_lines::put(rt, b" nodes ", size(h.nodes))?;
-    program_lines::end(rt, b"")
-}
-
-fn print_statement(
-    rt: &impl Print,
-    number: usize,
-    s: StatementRecord,
-    nodes: usize,
-) -> io::Result<()> {
-    program_lines::put(rt, b"s ", number)?;
-    program_lines::put(rt, b" ", s.kind as usize)?;
-    program_lines::put(rt, b" ", size(s.declarators))?;
-    program_lines::put(rt, b" ", nodes)?;
-    program_lines::end(rt, b"")
-}
-
-// A line for each of `count` statements from `at` on; their nodes and declarators begin at the other two places.
+// A line for each statement.
 fn print_statements(
     rt: &impl Print,
-    output: &[u8],
-    at: usize,
-    count: usize,
-    nodes: usize,
-    declarators: usize,
-) -> io::Result<()>
-    requires statements { at + 4 * count ≤ length output.now }
-    requires nodes { nodes ≤ length output.now }
-    requires declarators { declarators ≤ length output.now }
-{
-    let mut node = nodes;
-    let mut declarator = declarators;
-    let mut i = 0;
-    while i < count {
-        let s = statement_at(output, at + STATEMENT_LENGTH * i);
-        let own = DECLARATOR_LENGTH * size(s.declarators);
-        if output.len() - declarator < own {
+    statements: &[[u8; STATEMENT_LENGTH]],
+    nodes: &[[u8; NODE_LENGTH]],
+    declarators: &[[u8; DECLARATOR_LENGTH]],
+) -> io::Result<()> {
+    let mut nodes_left = nodes;
+    let mut declarators_left = declarators;
+    for (number, record) in statements.iter().enumerate() {
+        let s = statement_at(record, 0);
+        let count = usize::from(s.declarators);
+        let Some((own, declarators_after)) = declarators_left.split_at_checked(count) else {
             return Ok(());
-        }
-        let passed = nodes_of(output, node, trees_of(output, declarator, s));
-        print_statement(rt, i, s, passed)?;
-        node += NODE_LENGTH * passed;
-        declarator += own;
-        i += 1;
+        };
+        let passed = nodes_of(nodes_left, trees_of(s, own));
+        println!(rt; "s {number} {} {} {passed}", s.kind, s.declarators)?;
+        let (_, nodes_after) = nodes_left.split_at(passed);
+        nodes_left = nodes_after;
+        declarators_left = declarators_after;
     }
     Ok(())
 }
@@ -122,6 +66,12 @@ pub fn print_result(rt: &impl Print, output: &[u8], folds: usize) -> io::Result<
     if output.len() < parts[6] {
         return Ok(());
     }
-    print_totals(rt, h, folds)?;
-    print_statements(rt, output, parts[5], size(h.statements), parts[3], parts[4])
+    println!(rt;
+        "fold {folds} statements {} nodes {}",
+        h.statements, h.nodes
+    )?;
+    let (nodes, _) = output[parts[3]..parts[4]].as_chunks::<NODE_LENGTH>();
+    let (declarators, _) = output[parts[4]..parts[5]].as_chunks::<DECLARATOR_LENGTH>();
+    let (statements, _) = output[parts[5]..parts[6]].as_chunks::<STATEMENT_LENGTH>();
+    print_statements(rt, statements, nodes, declarators)
 }

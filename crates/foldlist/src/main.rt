@@ -6,17 +6,13 @@ mod list;
 
 use list::print_result;
 use program_lines::input::{BUFFER_LENGTH, read_full};
-use statements_fold::{FoldAnswer, fold};
+use statements_fold::fold;
 use std::io;
 
 fn report(rt: &impl Print, file: &[u8], output: &mut [u8]) -> io::Result<()> {
-    let outcome = fold(file, output);
-    match outcome {
-        FoldAnswer::Refused(number) => {
-            program_lines::put(rt, b"refused ", number as usize)?;
-            program_lines::end(rt, b"")
-        }
-        FoldAnswer::Written(_, folds) => print_result(rt, output, folds),
+    match fold(file, output) {
+        Ok(folded) => print_result(rt, output, folded.folds),
+        Err(row) => println!(rt; "refused {}", u8::from(row)),
     }
 }
 

@@ -12,6 +12,7 @@ pub fn read_full(reader: &mut impl Read, buf: &mut [u8]) -> io::Result<usize>
     ensures within { IfOk result (λ n. n ≤ length buf.old) }
 {
     let mut at = 0;
+    // No `for`: the reader says how far each step comes.
     while at < buf.len() {
         let n = reader.read(&mut buf[at..])?;
         if n == 0 {

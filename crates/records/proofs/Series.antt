@@ -1,10 +1,10 @@
 -- Records in a series, passed one by one. Assumes nothing.
 use mathlib.Core.Path.{◌≡◌, refl, sym, ap, ◌∙◌}
-use mathlib.Core.Bool.{Bool, true, false, ◌&&◌, and-true, and_assoc}
+use mathlib.Core.Bool.{Bool, true, ◌&&◌, and-true, and_assoc}
 use mathlib.Core.List.{List, [], ◌∷◌}
 use Prim.Native.Nat.{ℕ, zero, suc, ◌+◌, ◌-◌, ◌*◌, ◌≤◌, ◌<◌}
 use native.Mathlib.Omega.{arith}
-use native.Mathlib.Nat.{add-zero, zero-add, add_assoc, add_comm, mul-zero, mul-one, mul-suc, mul-add, sub-zero}
+use native.Mathlib.Nat.{add-zero, add_assoc, add_comm, mul-zero, mul-one, mul-suc, mul-add}
 use lib.ListN.{length, get_or}
 use Rattle.records.specs.Records.{records_from, every_from}
 use Rattle.records.proofs.Tests.{and_left, and_right}
@@ -39,9 +39,6 @@ pub record Passed {A : Type 0} (good : ℕ → A → Bool) (readAt : ℕ → A) 
   pub same : (so && every_from good i (records_from readAt len (n - i) (from + len * i))) ≡ every_from good 0 (records_from readAt len n from)
 
 module _ {A : Type 0} {good : ℕ → A → Bool} {readAt : ℕ → A} {len n from : ℕ} where
-  pub passed_none : Passed good readAt len n from true 0
-  passed_none = record { within = omega arith; same = rw (mul-zero, add-zero, sub-zero) }
-
   pub passed-more : {so : Bool} {i : ℕ} (x : A) (r : Bool) → Passed good readAt len n from so i → i < n → x ≡ readAt (from + len * i) → r ≡ good i x
       → Passed good readAt len n from (so && r) (i + 1)
   unfolding every_from
@@ -49,11 +46,6 @@ module _ {A : Type 0} {good : ℕ → A → Bool} {readAt : ℕ → A} {len n fr
     within = omega arith;
     same = rw (er, ex, mul-add, mul-one, ← add_assoc) (and_assoc so _ _ ∙ ap (λ (xs : List A). so && every_from good i xs) (sym (next_record readAt len n i (from + len * i) h)) ∙ p.same);
   }
-
-  -- one record that is bad
-  pub passed_bad : {i : ℕ} (x : A) → Passed good readAt len n from true i → i < n → x ≡ readAt (from + len * i) → false ≡ good i x
-      → false ≡ every_from good 0 (records_from readAt len n from)
-  passed_bad x p h ex er = (passed-more x false p h ex er).same
 
   pub passed-all : {so : Bool} {i : ℕ} → Passed good readAt len n from so i → n ≤ i → so ≡ every_from good 0 (records_from readAt len n from)
   unfolding every_from
@@ -64,9 +56,6 @@ pub record Summed {A : Type 0} (σ : List A → ℕ) (readAt : ℕ → A) (len n
   pub same : sum + σ (records_from readAt len (n - i) (from + len * i)) ≡ σ (records_from readAt len n from)
 
 module _ {A : Type 0} {σ : List A → ℕ} {readAt : ℕ → A} {len n from : ℕ} where
-  pub summed_none : Summed σ readAt len n from 0 0
-  summed_none = record { same = rw (mul-zero, add-zero, sub-zero, zero-add) }
-
   pub summed_more : {sum : ℕ} {i : ℕ} (weight : A → ℕ) (x : A) (w : ℕ) → ((y : A) (ys : List A) → σ (y ∷ ys) ≡ weight y + σ ys)
       → Summed σ readAt len n from sum i → i < n → x ≡ readAt (from + len * i) → w ≡ weight x → Summed σ readAt len n from (sum + w) (i + 1)
   summed_more {sum} {i} weight x w law p h ex ew = record {

@@ -1,9 +1,18 @@
-// The bits of options and flags, each by its worth and as a test of the record that has it.
-ghost use Rattle.std.specs.Prelude.{◌≡◌};
+// The bits of options and flags, each by its worth and as a test of the record that has it. The tests are methods over one `is_set`:
+// callers say a name, and can't ask a record for another record's bit.
+ghost use Rattle.std.specs.Prelude.{◌≡◌, ◌<◌};
 ghost use Rattle.records.specs.Flags.{bit, recorded, mutated, unresolved, is_eval};
 ghost use Rattle.records.specs.Flags.{marked, optional, anonymous, compound, shorthand, computed, proto};
 
 use crate::layout::{Header, NameFacts, NodeRecord, Scope};
+
+// Whether the bit of this worth is set.
+fn is_set(flags: u16, worth: u16) -> bool
+    requires worth { 0 < worth }
+    ensures result { result ≡ bit worth flags }
+{
+    flags / worth % 2 == 1
+}
 
 // Options.
 pub const SCRIPT: u8 = 1;
@@ -17,29 +26,31 @@ pub const LITERAL_ONLY: u8 = 8;
 // The bits from this one on are zero.
 pub const OPTIONS_LIMIT: u8 = 16;
 
-pub fn is_script(h: Header) -> bool
-    ensures result { result ≡ bit 1 h.options }
-{
-    h.options / SCRIPT % 2 == 1
-}
+impl Header {
+    pub fn is_script(self) -> bool
+        ensures result { result ≡ bit 1 self.options }
+    {
+        is_set(u16::from(self.options), u16::from(SCRIPT))
+    }
 
-pub fn keeps_function_names(h: Header) -> bool
-    ensures result { result ≡ bit 2 h.options }
-{
-    h.options / KEEP_FUNCTION_NAMES % 2 == 1
-}
+    pub fn keeps_function_names(self) -> bool
+        ensures result { result ≡ bit 2 self.options }
+    {
+        is_set(u16::from(self.options), u16::from(KEEP_FUNCTION_NAMES))
+    }
 
-pub fn keeps_class_names(h: Header) -> bool
-    ensures result { result ≡ bit 4 h.options }
-{
-    h.options / KEEP_CLASS_NAMES % 2 == 1
-}
+    pub fn keeps_class_names(self) -> bool
+        ensures result { result ≡ bit 4 self.options }
+    {
+        is_set(u16::from(self.options), u16::from(KEEP_CLASS_NAMES))
+    }
 
-// A statement's search places literals alone.
-pub fn is_literal_only(h: Header) -> bool
-    ensures result { result ≡ bit 8 h.options }
-{
-    h.options / LITERAL_ONLY % 2 == 1
+    // A statement's search places literals alone.
+    pub fn is_literal_only(self) -> bool
+        ensures result { result ≡ bit 8 self.options }
+    {
+        is_set(u16::from(self.options), u16::from(LITERAL_ONLY))
+    }
 }
 
 // Name facts.
@@ -62,53 +73,55 @@ pub const EVAL: u16 = 256;
 // The bits from this one on are zero.
 pub const NAME_FLAGS_LIMIT: u16 = 512;
 
-pub fn is_block_scoped(n: NameFacts) -> bool
-    ensures result { result ≡ bit 1 n.flags }
-{
-    n.flags / BLOCK_SCOPED % 2 == 1
-}
+impl NameFacts {
+    pub fn is_block_scoped(self) -> bool
+        ensures result { result ≡ bit 1 self.flags }
+    {
+        is_set(self.flags, BLOCK_SCOPED)
+    }
 
-pub fn is_import(n: NameFacts) -> bool
-    ensures result { result ≡ bit 2 n.flags }
-{
-    n.flags / IMPORTED % 2 == 1
-}
+    pub fn is_import(self) -> bool
+        ensures result { result ≡ bit 2 self.flags }
+    {
+        is_set(self.flags, IMPORTED)
+    }
 
-pub fn is_catch_variable(n: NameFacts) -> bool
-    ensures result { result ≡ bit 4 n.flags }
-{
-    n.flags / CATCH_VARIABLE % 2 == 1
-}
+    pub fn is_catch_variable(self) -> bool
+        ensures result { result ≡ bit 4 self.flags }
+    {
+        is_set(self.flags, CATCH_VARIABLE)
+    }
 
-// It has a value record: reads and writes were counted.
-pub fn is_recorded(n: NameFacts) -> bool
-    ensures result { result ≡ recorded n.flags }
-{
-    n.flags / RECORDED % 2 == 1
-}
+    // It has a value record: reads and writes were counted.
+    pub fn is_recorded(self) -> bool
+        ensures result { result ≡ recorded self.flags }
+    {
+        is_set(self.flags, RECORDED)
+    }
 
-pub fn is_implicitly_observable(n: NameFacts) -> bool
-    ensures result { result ≡ bit 32 n.flags }
-{
-    n.flags / IMPLICITLY_OBSERVABLE % 2 == 1
-}
+    pub fn is_implicitly_observable(self) -> bool
+        ensures result { result ≡ bit 32 self.flags }
+    {
+        is_set(self.flags, IMPLICITLY_OBSERVABLE)
+    }
 
-pub fn is_mutated(n: NameFacts) -> bool
-    ensures result { result ≡ mutated n.flags }
-{
-    n.flags / MUTATED % 2 == 1
-}
+    pub fn is_mutated(self) -> bool
+        ensures result { result ≡ mutated self.flags }
+    {
+        is_set(self.flags, MUTATED)
+    }
 
-pub fn is_unresolved(n: NameFacts) -> bool
-    ensures result { result ≡ unresolved n.flags }
-{
-    n.flags / UNRESOLVED % 2 == 1
-}
+    pub fn is_unresolved(self) -> bool
+        ensures result { result ≡ unresolved self.flags }
+    {
+        is_set(self.flags, UNRESOLVED)
+    }
 
-pub fn is_eval(n: NameFacts) -> bool
-    ensures result { result ≡ is_eval n.flags }
-{
-    n.flags / EVAL % 2 == 1
+    pub fn is_eval(self) -> bool
+        ensures result { result ≡ is_eval self.flags }
+    {
+        is_set(self.flags, EVAL)
+    }
 }
 
 // Scopes.
@@ -119,16 +132,18 @@ pub const DIRECT_EVAL: u16 = 2;
 // The bits from this one on are zero.
 pub const SCOPE_FLAGS_LIMIT: u16 = 4;
 
-pub fn is_function(s: Scope) -> bool
-    ensures result { result ≡ bit 1 s.flags }
-{
-    s.flags / FUNCTION_SCOPE % 2 == 1
-}
+impl Scope {
+    pub fn is_function(self) -> bool
+        ensures result { result ≡ bit 1 self.flags }
+    {
+        is_set(self.flags, FUNCTION_SCOPE)
+    }
 
-pub fn has_direct_eval(s: Scope) -> bool
-    ensures result { result ≡ bit 2 s.flags }
-{
-    s.flags / DIRECT_EVAL % 2 == 1
+    pub fn has_direct_eval(self) -> bool
+        ensures result { result ≡ bit 2 self.flags }
+    {
+        is_set(self.flags, DIRECT_EVAL)
+    }
 }
 
 // Nodes.
@@ -146,45 +161,47 @@ pub const COMPUTED: u8 = 32;
 
 pub const PROTO: u8 = 64;
 
-pub fn is_marked(n: NodeRecord) -> bool
-    ensures result { result ≡ marked n.flags }
-{
-    n.flags / MARKED % 2 == 1
-}
+impl NodeRecord {
+    pub fn is_marked(self) -> bool
+        ensures result { result ≡ marked self.flags }
+    {
+        is_set(u16::from(self.flags), u16::from(MARKED))
+    }
 
-pub fn is_optional(n: NodeRecord) -> bool
-    ensures result { result ≡ optional n.flags }
-{
-    n.flags / OPTIONAL % 2 == 1
-}
+    pub fn is_optional(self) -> bool
+        ensures result { result ≡ optional self.flags }
+    {
+        is_set(u16::from(self.flags), u16::from(OPTIONAL))
+    }
 
-pub fn is_anonymous(n: NodeRecord) -> bool
-    ensures result { result ≡ anonymous n.flags }
-{
-    n.flags / ANONYMOUS % 2 == 1
-}
+    pub fn is_anonymous(self) -> bool
+        ensures result { result ≡ anonymous self.flags }
+    {
+        is_set(u16::from(self.flags), u16::from(ANONYMOUS))
+    }
 
-pub fn is_compound(n: NodeRecord) -> bool
-    ensures result { result ≡ compound n.flags }
-{
-    n.flags / COMPOUND % 2 == 1
-}
+    pub fn is_compound(self) -> bool
+        ensures result { result ≡ compound self.flags }
+    {
+        is_set(u16::from(self.flags), u16::from(COMPOUND))
+    }
 
-pub fn is_shorthand(n: NodeRecord) -> bool
-    ensures result { result ≡ shorthand n.flags }
-{
-    n.flags / SHORTHAND % 2 == 1
-}
+    pub fn is_shorthand(self) -> bool
+        ensures result { result ≡ shorthand self.flags }
+    {
+        is_set(u16::from(self.flags), u16::from(SHORTHAND))
+    }
 
-pub fn is_computed(n: NodeRecord) -> bool
-    ensures result { result ≡ computed n.flags }
-{
-    n.flags / COMPUTED % 2 == 1
-}
+    pub fn is_computed(self) -> bool
+        ensures result { result ≡ computed self.flags }
+    {
+        is_set(u16::from(self.flags), u16::from(COMPUTED))
+    }
 
-// The key is `__proto__`.
-pub fn is_proto(n: NodeRecord) -> bool
-    ensures result { result ≡ proto n.flags }
-{
-    n.flags / PROTO % 2 == 1
+    // The key is `__proto__`.
+    pub fn is_proto(self) -> bool
+        ensures result { result ≡ proto self.flags }
+    {
+        is_set(u16::from(self.flags), u16::from(PROTO))
+    }
 }

@@ -1,4 +1,5 @@
-// The kinds of nodes and of statements, and the label by which the fold knows a `delete`.
+// The kinds of nodes and of statements, and the label by which the fold knows a `delete`. They are bytes and no enum: the
+// definitions of `specs/Node.antt` and `specs/Place.antt` are about the byte, which may be any until row 7 has passed.
 ghost use Rattle.std.specs.Prelude.{◌≡◌};
 ghost use Rattle.records.specs.Place.{is_expression};
 
@@ -86,5 +87,5 @@ pub const OTHER_STATEMENT: u8 = 6;
 pub fn is_expression(kind: u16) -> bool
     ensures result { result ≡ is_expression kind }
 {
-    (kind < SPREAD as u16) | (kind == SEQUENCE as u16)
+    (kind < u16::from(SPREAD)) | (kind == u16::from(SEQUENCE))
 }

@@ -6,13 +6,13 @@ ghost use Rattle.records.specs.Record.{header_of, name_at, scope_at, frame_at, n
 
 use crate::number::{u16_at, u32_at};
 
-#[derive(Clone, Copy)]
+#[derive(Clone, Copy, PartialEq, Eq)]
 pub struct NameId(pub u16);
 
-#[derive(Clone, Copy)]
+#[derive(Clone, Copy, PartialEq, Eq)]
 pub struct ScopeId(pub u16);
 
-#[derive(Clone, Copy)]
+#[derive(Clone, Copy, PartialEq, Eq)]
 pub struct NodeId(pub usize);
 
 #[derive(Clone, Copy)]

@@ -1,5 +1,5 @@
 // The writers: each lays bytes down at the start of the slice that it gets, the output from the current place onward, and
-// leaves what follows as it was.
+// leaves what follows as it was. Each record's is one call, so that a generic one over the records would be no plainer.
 ghost use Rattle.std.specs.Prelude.{◌≡◌, ◌++◌, ◌+◌, ◌-◌, ◌≤◌, length, take, drop};
 ghost use Rattle.records.specs.Limits.{header_length, declarator_length, statement_length};
 ghost use Rattle.records.specs.Record.{header_bytes, declarator_bytes, statement_bytes};
@@ -12,24 +12,21 @@ pub fn put_header(out: &mut [u8], h: Header)
     requires room { header_length ≤ length out.old }
     ensures output { out.new ≡ header_bytes h ++ drop header_length out.old }
 {
-    let record = header_bytes(h);
-    copy(&record, out);
+    copy(&header_bytes(h), out);
 }
 
 pub fn put_declarator(out: &mut [u8], d: DeclaratorRecord)
     requires room { declarator_length ≤ length out.old }
     ensures output { out.new ≡ declarator_bytes d ++ drop declarator_length out.old }
 {
-    let record = declarator_bytes(d);
-    copy(&record, out);
+    copy(&declarator_bytes(d), out);
 }
 
 pub fn put_statement(out: &mut [u8], s: StatementRecord)
     requires room { statement_length ≤ length out.old }
     ensures output { out.new ≡ statement_bytes s ++ drop statement_length out.old }
 {
-    let record = statement_bytes(s);
-    copy(&record, out);
+    copy(&statement_bytes(s), out);
 }
 
 // The bytes from one place to another, as they are: names, scopes and frames of a file, declarators and statements of a table.

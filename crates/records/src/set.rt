@@ -7,5 +7,5 @@ pub fn has_bit(set: u64, bit: u16) -> bool
     requires bit { bit < 64 }
     ensures result { result ≡ is_in set bit }
 {
-    (set >> (bit as u64)) % 2 == 1
+    (set >> u64::from(bit)) % 2 == 1
 }

@@ -1,17 +1,17 @@
 -- What the passes over all records give, as the rows of the table say it. Assumes nothing.
 use mathlib.Core.Path.{◌≡◌, refl, sym, ap, ◌∙◌}
-use mathlib.Core.Bool.{Bool, true, false, not, ◌&&◌, ◌||◌, and-false, true≢false, false≢true}
+use mathlib.Core.Bool.{Bool, true, false, not, ◌&&◌, and-false, true≢false}
 use mathlib.Core.List.{List, [], ◌∷◌}
 use Prim.Native.Nat.{ℕ, ◌+◌, ◌-◌, ◌≤◌, ◌<◌}
 use native.Mathlib.Omega.{arith}
-use native.Mathlib.Nat.{add-zero}
-use borrow.Author.Tests.{not-false}
 use lib.ListN.{length, get_or, drop, length-drop}
 use lib.Seq.{take_all}
 use lib.Dec.{eqb}
 use Rattle.records.specs.Records.{records_from, every, every_from}
-use Rattle.records.specs.Node.{good_node, bad_nodes}
-use Rattle.records.specs.File.{initializers}
+use Rattle.records.specs.File.{initializers, names_of, declarators_of, statements_of, facts_from, declarators_start}
+use Rattle.records.specs.Script.{good_declarator, good_statement, declarator_sum, bad_statements}
+use Rattle.records.specs.Record.{header_of, declarator_at}
+use Rattle.records.specs.declared.layout.Header.{Header}
 use Rattle.records.specs.Tree.{Trees, count, forest_of, closed}
 use Rattle.records.specs.Place.{roots_stand, all_placed, expressions, bad_trees}
 use Rattle.records.specs.Count.{reads_of, targets_of, good_counts, bad_counts}
@@ -20,8 +20,8 @@ use Rattle.records.specs.declared.layout.NodeRecord.{NodeRecord}
 use Rattle.records.specs.declared.layout.DeclaratorRecord.{DeclaratorRecord}
 use Rattle.records.specs.declared.layout.StatementRecord.{StatementRecord}
 use Rattle.records.proofs.Series.{records-length}
-use Rattle.records.proofs.Tests.{one-most, all_three}
-use Rattle.records_refusal.specs.Scanning.{good_trees, Taken}
+use Rattle.records.proofs.Tests.{one-most}
+use Rattle.records_refusal.specs.Scanning.{good_trees}
 use Rattle.records_rows.specs.Stack.{entries, entry_at, root_stands}
 use Rattle.records_rows.specs.Tally.{Tally}
 use Rattle.records_rows.proofs.Forests.{entries-length, roots_entries}
@@ -64,55 +64,35 @@ and_turned true false true false = refl
 and_turned true false false r = refl
 and_turned false p a r = refl
 
--- row 8
-pub trees-judged : (ds : List DeclaratorRecord) (ss : List StatementRecord) (ns : List NodeRecord) (stack : List ℕ) (top trees : ℕ) (good roots : Bool)
-    → good ≡ (closed ns && all_placed (forest_of ns)) → top ≤ length stack → drop top stack ≡ entries (forest_of ns) → trees ≡ initializers ds + expressions ss
+-- row 6
+pub statements-judged : (bs : List ℕ) (h : Header) {good_ds good_ss : Bool} {n count : ℕ} {ds : List DeclaratorRecord} {ss : List StatementRecord}
+    → h ≡ header_of bs → count ≡ h.declarators → ds ≡ declarators_of bs → ss ≡ statements_of bs
+    → good_ds ≡ every (good_declarator (facts_from bs 24 h.names)) ds → good_ss ≡ every good_statement ss → n ≡ declarator_sum ss
+    → not (good_ds && good_ss && eqb n count) ≡ bad_statements (names_of bs) (declarators_of bs) (statements_of bs)
+unfolding bad_statements names_of declarators_of
+statements-judged bs h eh ec eds ess ed es en =
+    rw (ed, es, en, ec, eds, ess, eh, records-length (declarator_at bs) 4 (header_of bs).declarators (declarators_start (header_of bs)))
+
+-- row 8 where they do
+pub trees-judged : (ds : List DeclaratorRecord) (ss : List StatementRecord) (ns : List NodeRecord) (stack : List ℕ) (top trees : ℕ) {roots : Bool}
+    → good_trees ns ≡ true → top ≤ length stack → drop top stack ≡ entries (forest_of ns) → trees ≡ initializers ds + expressions ss
     → roots ≡ every_from (λ k. root_stands) 0 (records_from (entry_at stack) 1 (length stack - top) top)
-    → not (good && eqb (length stack - top) trees && roots) ≡ bad_trees ds ss ns
+    → not (eqb (length stack - top) trees && roots) ≡ bad_trees ds ss ns
 unfolding bad_trees
-trees-judged ds ss ns stack top trees good roots eg h same et er =
-    rw (eg, er, forest_roots stack top (forest_of ns) same h, forest_count stack top (forest_of ns) same, et)
-    (ap not (and_turned (closed ns) (all_placed (forest_of ns)) (eqb (count (forest_of ns)) (initializers ds + expressions ss)) (roots_stand (forest_of ns))))
+trees-judged ds ss ns stack top trees g h same et er =
+    rw (er, forest_roots stack top (forest_of ns) same h, forest_count stack top (forest_of ns) same, et)
+    (ap not (ap (λ (b : Bool). b && eqb (count (forest_of ns)) (initializers ds + expressions ss) && roots_stand (forest_of ns)) (sym g)
+    ∙ and_turned (closed ns) (all_placed (forest_of ns)) (eqb (count (forest_of ns)) (initializers ds + expressions ss)) (roots_stand (forest_of ns))))
 
-unplaced : (c a r p : Bool) → (c && p) ≡ false → true ≡ not (c && a && r && p)
-unplaced false a r p e = refl
-unplaced true a r false e = sym (ap not (and-false (a && r)))
-unplaced true a r true e = absurd (true≢false e)
+unplaced : (c p a r : Bool) → (c && p) ≡ false → true ≡ not (c && a && r && p)
+unplaced false p a r e = refl
+unplaced true false a r e = sym (ap not (and-false (a && r)))
+unplaced true true a r e = absurd (true≢false e)
 
--- rows 7 and 8
-module _ (names : List NameFacts) (ds : List DeclaratorRecord) (ss : List StatementRecord) (ns : List NodeRecord) (stack : List ℕ) (top trees : ℕ) (nodes good roots : Bool)
-    (en : nodes ≡ every (good_node names) ns) (eg : good ≡ (every (good_node names) ns && good_trees ns)) (h : top ≤ length stack)
-    (same : good ≡ true → drop top stack ≡ entries (forest_of ns)) (et : trees ≡ initializers ds + expressions ss)
-    (er : roots ≡ every_from (λ k. root_stands) 0 (records_from (entry_at stack) 1 (length stack - top) top)) where
-  rows-by : (g t : Bool) → every (good_node names) ns ≡ g → good_trees ns ≡ t
-      → (not nodes || not (good && eqb (length stack - top) trees && roots)) ≡ (bad_nodes names ns || bad_trees ds ss ns)
-  unfolding bad_nodes bad_trees
-  rows-by false t e d = rw (en, e)
-  rows-by true false e d = rw (en, eg, e, d) (unplaced (closed ns) _ _ (all_placed (forest_of ns)) d)
-  rows-by true true e d =
-      rw (en, e)
-      (trees-judged ds ss ns stack top trees good roots (eg ∙ rw e) h (same (eg ∙ rw (e, d))) et er)
-
-  pub node_rows_judged : (not nodes || not (good && eqb (length stack - top) trees && roots)) ≡ (bad_nodes names ns || bad_trees ds ss ns)
-  node_rows_judged = rows-by (every (good_node names) ns) (good_trees ns) refl refl
-
--- a test among others that all hold
-pub first_of_three : (a b c : Bool) → not (a && b && c) ≡ false → a ≡ true
-first_of_three a b c e = (all_three a b c (not-false (a && b && c) e)).0
-
--- uses beside none
-module _ {ns : List NodeRecord} {reads₀ targets₀ stack reads targets : List ℕ} {top : ℕ} (t : Taken ns reads₀ targets₀ stack reads targets top) where
-  pub reads-alone : length reads ≡ length reads₀ → Tally (λ k. 0) reads₀ → Tally (λ k. reads_of k (forest_of ns)) reads
-  reads-alone l z k h = t.read k h ∙ rw (z k (omega arith)) (add-zero _)
-
-  pub targets-alone : length targets ≡ length targets₀ → Tally (λ k. 0) targets₀ → Tally (λ k. targets_of k (forest_of ns)) targets
-  targets-alone l z k h = t.target k h ∙ rw (z k (omega arith)) (add-zero _)
-
--- the second of two tests, where the first fails
-pub second-test : (a b c d : Bool) → (a || b) ≡ (c || d) → a ≡ c → a ≡ false → b ≡ d
-second-test true b c d e ac af = absurd (true≢false af)
-second-test false b true d e ac af = absurd (false≢true ac)
-second-test false b false d e ac af = e
+-- row 8 where the trees don't close or stand
+pub trees-bad : (ds : List DeclaratorRecord) (ss : List StatementRecord) (ns : List NodeRecord) → good_trees ns ≡ false → true ≡ bad_trees ds ss ns
+unfolding bad_trees
+trees-bad ds ss ns e = unplaced (closed ns) (all_placed (forest_of ns)) _ _ e
 
 -- tests that agree on the records of a series
 pub every-same : {A : Type 0} (f g : ℕ → A → Bool) (i : ℕ) (xs : List A) → ((k : ℕ) (x : A) → k < i + length xs → f k x ≡ g k x)

@@ -2,4 +2,4 @@
 pub mod Judged
 pub mod Limits
 pub mod Scans
-pub mod Header
+pub mod Rows

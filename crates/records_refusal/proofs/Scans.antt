@@ -1,6 +1,6 @@
 -- One node more in the pass over the nodes, and where the pass ends. Assumes nothing.
-use mathlib.Core.Path.{◌≡◌, refl, sym, ap, ap₂, subst, ◌∙◌}
-use mathlib.Core.Bool.{Bool, true, false, ◌&&◌, and-true, and-false}
+use mathlib.Core.Path.{◌≡◌, refl, sym, ap, subst, ◌∙◌}
+use mathlib.Core.Bool.{Bool, true, false, not, ◌&&◌, and-true, and-false}
 use mathlib.Core.List.{List, [], ◌∷◌, ◌++◌}
 use mathlib.Core.Logic.{⊎_elim}
 use Prim.Native.Nat.{ℕ, ◌+◌, ◌-◌, ◌*◌, ◌≤◌, ◌<◌}
@@ -8,13 +8,14 @@ use native.Mathlib.Omega.{arith}
 use native.Mathlib.Nat.{eq-or-lt_of_le}
 use lib.ListN.{length, get_or, drop, set, length-drop, get_or-eq_default}
 use lib.Seq.{get_or-set_same, get_or-set_other}
-use lib.Dec.{eqb, ltb, leb}
-use borrow.Author.Tests.{leb-true, ltb-true, ltb-false}
+use lib.Dec.{eqb, leb}
+use borrow.Author.Tests.{leb-true}
 use Rattle.records.specs.Record.{name_at, node_at}
 use Rattle.records.specs.Records.{records_from, every, every_from}
 use Rattle.records.specs.File.{one, nodes_start, nodes_from, names_of, nodes_of}
+use Rattle.records.specs.Refusal.{row}
 use Rattle.records.specs.Flags.{compound}
-use Rattle.records.specs.Node.{is_named, good_node}
+use Rattle.records.specs.Node.{is_named, good_node, bad_nodes}
 use Rattle.records.specs.Tree.{node_of, forest_of}
 use Rattle.records.specs.Count.{target_name}
 use Rattle.records.specs.declared.layout.Header.{Header}
@@ -31,8 +32,7 @@ use Rattle.records_rows.specs.Tally.{Tally, record_read}
 use Rattle.records_rows.proofs.Counting.{counting_none, counting_more, reads-low, targets-low, counted-reads, counted-targets}
 use Rattle.records_refusal.specs.Passing.{HeaderPasses}
 use Rattle.records_refusal.specs.Scanning.{good_nodes, good_first, good_trees, Few, Scanning, Taken}
-use Rattle.records_refusal.specs.declared.scan.Scan.{Scan}
-use Rattle.records_refusal.proofs.Limits.{length_said, nodes-fit}
+use Rattle.records_refusal.specs.Found.{Ends, Breaks}
 
 -- no node is taken yet
 pub scanned_none : {bs : List ℕ} {names from n : ℕ} {stack reads targets : List ℕ} → Scanning bs names from n reads targets stack reads targets (length stack) n
@@ -95,11 +95,8 @@ module _ {bs : List ℕ} {names from n : ℕ} {reads₀ targets₀ stack reads t
         ∙ ap (λ (b : Bool). good_first bs names from j && b) nodes-more
 
     -- one that is bad by itself
-    pub ends_bad : good_node (records_from (name_at bs) 12 names 24) x ≡ false → false ≡ good_first bs names from n
-    ends_bad e = sym (nodes_split ∙ rw e (and-false (good_first bs names from j)))
-
-    pub ends_untaken : good_node (records_from (name_at bs) 12 names 24) x ≡ false → false ≡ (good_first bs names from n && good_trees (nodes_from bs from n))
-    ends_untaken e = ap (λ (b : Bool). b && good_trees (nodes_from bs from n)) (ends_bad e)
+    pub ends_bad : good_node (records_from (name_at bs) 12 names 24) x ≡ false → good_first bs names from n ≡ false
+    ends_bad e = nodes_split ∙ rw e (and-false (good_first bs names from j))
 
     -- one that is good
     module _ (good : good_node (records_from (name_at bs) 12 names 24) x ≡ true) where
@@ -115,7 +112,7 @@ module _ {bs : List ℕ} {names from n : ℕ} {reads₀ targets₀ stack reads t
       unfolding good_node
       compound-kind = good_compound _ _ x good
 
-      pub ends_good : good_first bs names from j ≡ good_first bs names from n
+      ends_good : good_first bs names from j ≡ good_first bs names from n
       ends_good = sym (nodes_split ∙ rw good (and-true (good_first bs names from j)))
 
       -- its children can't stand
@@ -124,9 +121,14 @@ module _ {bs : List ℕ} {names from n : ℕ} {reads₀ targets₀ stack reads t
           rw (one_more (node_at bs) 12 n from i j ei p.counted.within, ← ex)
           (sym (grown_good x (records_from (node_at bs) 12 (n - i) (from + 12 * i))) ∙ rw (← p.grown.same, e))
 
-      pub ends-unchained : children_stand x (drop top stack) ≡ false → false ≡ (good_first bs names from n && good_trees (nodes_from bs from n))
-      ends-unchained e =
-          sym (ap (λ (b : Bool). good_first bs names from n && b) (first_count good_trees ∙ trees-before (nodes_from bs from j) _ (trees-more e)) ∙ and-false (good_first bs names from n))
+      pub breaks : children_stand x (drop top stack) ≡ false → Few reads₀ n → Few targets₀ n → Breaks bs names from n reads targets j
+      breaks e fr ft = record {
+        nodes = ends_good;
+        trees = first_count good_trees ∙ trees-before (nodes_from bs from j) _ (trees-more e);
+        fewer = omega (arith, p.counted.within);
+        reads-few = λ k. omega (arith, reads-few fr k);
+        targets-few = λ k. omega (arith, targets-few ft k);
+      }
 
       -- its children stand
       module _ (stands : children_stand x (drop top stack) ≡ true) where
@@ -154,19 +156,13 @@ module _ {bs : List ℕ} {names from n : ℕ} {reads₀ targets₀ stack reads t
             }
 
   -- all nodes are taken
-  module _ (e : i ≤ 0) where
-    all_good : good_first bs names from n ≡ true
-    all_good = sym (ap (good_nodes bs names) (all_left (node_at bs) 12 n from i e)) ∙ p.judged
-
-    pub taken-nodes : good_first bs names from i ≡ good_first bs names from n
-    unfolding records_from every_from
-    taken-nodes = let none : i ≡ 0 = omega arith in rw none (sym all_good)
-
-    pub taken-trees : true ≡ (good_first bs names from n && good_trees (nodes_from bs from n))
-    taken-trees = sym (rw all_good (growing_good p.grown e))
-
-    pub taken-all : Taken (nodes_from bs from n) reads₀ targets₀ stack reads targets top
-    taken-all = record { entered = growing_all p.grown e; read = counted-reads p.counted e; target = counted-targets p.counted e }
+  pub ends : {stack₀ : List ℕ} → i ≤ 0 → top ≤ length stack₀ → Ends bs names from n stack₀ reads₀ targets₀ stack reads targets top
+  ends e h = record {
+    nodes = sym (ap (good_nodes bs names) (all_left (node_at bs) 12 n from i e)) ∙ p.judged;
+    trees = growing_good p.grown e;
+    inside = h;
+    taken = record { entered = growing_all p.grown e; read = counted-reads p.counted e; target = counted-targets p.counted e };
+  }
 
 -- a loop that takes nodes: what it knows, and the lengths of the slices that it writes to
 pub record Going (bs : List ℕ) (names from n : ℕ) (stack₀ reads₀ targets₀ stack reads targets : List ℕ) (top i : ℕ) : Type 0 where
@@ -174,62 +170,6 @@ pub record Going (bs : List ℕ) (names from n : ℕ) (stack₀ reads₀ targets
   pub stacked : length stack ≡ length stack₀
   pub counted : length reads ≡ length reads₀
   pub aimed : length targets ≡ length targets₀
-
--- the records of a file whose header passes
-module _ {bs : List ℕ} {h : Header} (hp : HeaderPasses bs h) where
-  pub nodes-inside : nodes_start h + 12 * h.nodes ≤ length bs
-  nodes-inside = omega (arith, length_said bs h hp.measured)
-
-  pub names-inside : 24 + 12 * h.names ≤ length bs
-  names-inside = omega (arith, length_said bs h hp.measured)
-
-  pub same_nodes : nodes_from bs (nodes_start h) h.nodes ≡ nodes_of bs
-  unfolding nodes_of
-  same_nodes = rw hp.is
-
-  pub same_names : records_from (name_at bs) 12 h.names 24 ≡ names_of bs
-  unfolding names_of
-  same_names = rw hp.is
-
-  pub same_good : good_first bs h.names (nodes_start h) h.nodes ≡ every (good_node (names_of bs)) (nodes_of bs)
-  same_good = ap (good_nodes bs h.names) same_nodes ∙ ap (λ (ns : List NameFacts). every (good_node ns) (nodes_of bs)) same_names
-
-  -- no name is used yet
-  pub none-used : (xs : List ℕ) → Tally (λ k. 0) xs → Few xs h.nodes
-  none-used xs t k = few-at (ltb k (length xs)) refl where
-    few-at : (b : Bool) → ltb k (length xs) ≡ b → get_or xs k 0 + h.nodes ≤ 65535
-    few-at true e = rw (t k (ltb-true k (length xs) e)) (omega (arith, nodes-fit h hp.limits))
-    few-at false e = rw (get_or-eq_default xs 0 (ltb-false k (length xs) e)) (omega (arith, nodes-fit h hp.limits))
-
--- a run over all nodes
-module _ {bs : List ℕ} {h : Header} (hp : HeaderPasses bs h) (from count : ℕ) (ef : from ≡ nodes_start h) (ec : count ≡ h.nodes) where
-  whole : nodes_from bs from count ≡ nodes_of bs
-  whole = rw (ef, ec) (same_nodes hp)
-
-  whole-judged : good_first bs h.names from count ≡ every (good_node (names_of bs)) (nodes_of bs)
-  whole-judged = rw (ef, ec) (same_good hp)
-
-  pub whole-taken : {reads₀ targets₀ stack reads targets : List ℕ} {top : ℕ} → Taken (nodes_from bs from count) reads₀ targets₀ stack reads targets top
-      → Taken (nodes_of bs) reads₀ targets₀ stack reads targets top
-  whole-taken {reads₀} {targets₀} {stack} {reads} {targets} {top} t = subst (λ (ns : List NodeRecord). Taken ns reads₀ targets₀ stack reads targets top) whole t
-
-  pub whole-trees : (b : Bool) → b ≡ (good_first bs h.names from count && good_trees (nodes_from bs from count))
-      → b ≡ (every (good_node (names_of bs)) (nodes_of bs) && good_trees (nodes_of bs))
-  whole-trees b e = e ∙ ap₂ ◌&&◌ whole-judged (ap good_trees whole)
-
-  module _ (s : Scan) (en : (s.nodes_good && good_first bs h.names from s.nodes_left) ≡ good_first bs h.names from count) where
-    pub whole-nodes : s.trees_taken ≡ (good_first bs h.names from count && good_trees (nodes_from bs from count)) → s.trees_taken ≡ true
-        → s.nodes_good ≡ every (good_node (names_of bs)) (nodes_of bs)
-    whole-nodes et e =
-        let g = and_left (good_first bs h.names from count) (good_trees (nodes_from bs from count)) (sym et ∙ e) in
-        and_left s.nodes_good (good_first bs h.names from s.nodes_left) (en ∙ g) ∙ sym (sym whole-judged ∙ g)
-
-    -- a node was bad, or the nodes before those that were taken decide
-    pub whole_bad : s.nodes_good ≡ false → s.nodes_good ≡ every (good_node (names_of bs)) (nodes_of bs)
-    whole_bad e = e ∙ sym (ap (λ (b : Bool). b && good_first bs h.names from s.nodes_left) e) ∙ en ∙ whole-judged
-
-    pub whole-asked : (b : Bool) → s.nodes_good ≡ true → b ≡ good_first bs h.names from s.nodes_left → b ≡ every (good_node (names_of bs)) (nodes_of bs)
-    whole-asked b e eb = eb ∙ sym (ap (λ (b : Bool). b && good_first bs h.names from s.nodes_left) e) ∙ en ∙ whole-judged
 
 -- a loop that asks nodes for row 7 in runs
 pub record Asking (bs : List ℕ) (names from n : ℕ) (stack₀ reads₀ targets₀ stack reads targets : List ℕ) (left : ℕ) : Type 0 where
@@ -241,16 +181,45 @@ pub record Asking (bs : List ℕ) (names from n : ℕ) (stack₀ reads₀ target
   pub counted : length reads ≡ length reads₀
   pub aimed : length targets ≡ length targets₀
 
-module _ (bs : List ℕ) (names from n left : ℕ) (b : Bool) (more : ℕ) (en : good_first bs names from left ≡ good_first bs names from n) where
-  -- one run more
-  pub asked-more : b ≡ true → (b && good_first bs names from more) ≡ good_first bs names from left
-      → good_first bs names from more ≡ good_first bs names from n
-  asked-more e er = sym (ap (λ (x : Bool). x && good_first bs names from more) e) ∙ er ∙ en
+-- where nodes begin, said in two ways
+pub ends-at : {bs : List ℕ} {names from at count : ℕ} {stack₀ reads₀ targets₀ stack reads targets : List ℕ} {top : ℕ} → at ≡ from
+    → Ends bs names at count stack₀ reads₀ targets₀ stack reads targets top → Ends bs names from count stack₀ reads₀ targets₀ stack reads targets top
+ends-at {bs} {names} {from} {at} {count} {stack₀} {reads₀} {targets₀} {stack} {reads} {targets} {top} e p =
+    subst (λ (k : ℕ). Ends bs names k count stack₀ reads₀ targets₀ stack reads targets top) e p
 
-  pub asked_bad : b ≡ false → (b && good_first bs names from more) ≡ good_first bs names from left
-      → false ≡ good_first bs names from n
-  asked_bad e er = sym (ap (λ (x : Bool). x && good_first bs names from more) e) ∙ er ∙ en
+pub breaks-at : {bs : List ℕ} {names from at count : ℕ} {reads targets : List ℕ} {left : ℕ} → at ≡ from
+    → Breaks bs names at count reads targets left → Breaks bs names from count reads targets left
+breaks-at {bs} {names} {from} {at} {count} {reads} {targets} {left} e p = subst (λ (k : ℕ). Breaks bs names k count reads targets left) e p
 
-  pub asked-all : left ≤ 0 → true ≡ good_first bs names from n
-  unfolding records_from every_from
-  asked-all h = let none : left ≡ 0 = omega arith in sym (ap (λ (m : ℕ). good_first bs names from m) none) ∙ en
+-- the records of a file whose header passes
+module _ {bs : List ℕ} {h : Header} (hp : HeaderPasses bs h) where
+  same_nodes : nodes_from bs (nodes_start h) h.nodes ≡ nodes_of bs
+  unfolding nodes_of
+  same_nodes = rw hp.is
+
+  same_names : records_from (name_at bs) 12 h.names 24 ≡ names_of bs
+  unfolding names_of
+  same_names = rw hp.is
+
+  pub nodes-judged : good_first bs h.names (nodes_start h) h.nodes ≡ every (good_node (names_of bs)) (nodes_of bs)
+  nodes-judged = ap (good_nodes bs h.names) same_nodes ∙ ap (λ (ns : List NameFacts). every (good_node ns) (nodes_of bs)) same_names
+
+  -- rows 7 and 8 by a pass over all nodes: a node is bad
+  pub row-7 : (later : ℕ) → good_first bs h.names (nodes_start h) h.nodes ≡ false → 7 ≡ row 7 (bad_nodes (names_of bs) (nodes_of bs)) later
+  unfolding bad_nodes
+  row-7 later e = rw (← nodes-judged, e)
+
+  -- none is, and the trees don't close or stand
+  pub row-8 : {reads targets : List ℕ} {left : ℕ} → Breaks bs h.names (nodes_start h) h.nodes reads targets left → good_first bs h.names (nodes_start h) left ≡ true
+      → 8 ≡ row 7 (bad_nodes (names_of bs) (nodes_of bs)) (row 8 (not (good_trees (nodes_of bs))) 0)
+  unfolding bad_nodes
+  row-8 p e = rw (← nodes-judged, ← p.nodes, e, ← same_nodes, p.trees)
+
+  -- none refuses
+  module _ {stack₀ reads₀ targets₀ stack reads targets : List ℕ} {top : ℕ} (p : Ends bs h.names (nodes_start h) h.nodes stack₀ reads₀ targets₀ stack reads targets top) where
+    pub no-row : 0 ≡ row 7 (bad_nodes (names_of bs) (nodes_of bs)) (row 8 (not (good_trees (nodes_of bs))) 0)
+    unfolding bad_nodes
+    no-row = rw (← nodes-judged, p.nodes, ← same_nodes, p.trees)
+
+    pub all-taken : Taken (nodes_of bs) reads₀ targets₀ stack reads targets top
+    all-taken = subst (λ (ns : List NodeRecord). Taken ns reads₀ targets₀ stack reads targets top) same_nodes p.taken

@@ -2,3 +2,4 @@
 pub mod Number
 pub mod Passing
 pub mod Scanning
+pub mod Found

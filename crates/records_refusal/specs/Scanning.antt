@@ -1,6 +1,6 @@
 -- What the pass over the nodes, from the last to the first, knows of those that it has taken.
-use Rattle.std.specs.Prelude.{ℕ, ◌+◌, ◌-◌, ◌*◌, ◌≤◌, ◌<◌, ◌≡◌, Bool, true, ◌&&◌, List, length, get_or, drop}
-use Rattle.records.specs.Limits.{max_names, header_length}
+use Rattle.std.specs.Prelude.{ℕ, ◌+◌, ◌-◌, ◌*◌, ◌≤◌, ◌≡◌, Bool, true, ◌&&◌, List, get_or, drop}
+use Rattle.records.specs.Limits.{header_length}
 use Rattle.records.specs.Record.{node_at}
 use Rattle.records.specs.Records.{records_from, every}
 use Rattle.records.specs.File.{facts_from, nodes_from}
@@ -25,10 +25,6 @@ good_first bs names from count = good_nodes bs names (nodes_from bs from count)
 -- row 8, but for the statements: trees that close, with children where they may stand
 abbrev pub good_trees : List NodeRecord → Bool
 good_trees ns = closed ns && all_placed (forest_of ns)
-
--- an array with a place for each name, and 0 in each
-abbrev pub Cleared : List ℕ → Type 0
-Cleared xs = (max_names ≤ length xs) × (length xs < 65535) × Tally (λ k. 0) xs
 
 -- counts to which so many may be added
 abbrev pub Few : List ℕ → ℕ → Type 0

@@ -1,122 +1,98 @@
-// The refusal table, in its order: `refusal`, the public call, tests the rows of the header by `header_refusal`, and the others
-// by `check`.
-ghost use Rattle.std.specs.Prelude.{◌≡◌, ◌≤◌, length};
+// The refusal table, in its order: `refusal`, the public call, tests the rows of the header by `read_header`, and the others by
+// `check`.
+ghost use Rattle.std.specs.Prelude.{◌≡◌, ◌*◌, ◌≤◌, ◌<◌, length, IfOk};
 ghost use Rattle.records.specs.Refusal.{refusal as refusalOf};
 ghost use Rattle.records_refusal.specs.Number.{number};
-ghost use Rattle.records_refusal.specs.Passing.{header_refusal, HeaderPasses};
-ghost use Rattle.records_refusal.specs.Scanning.{Cleared};
+ghost use Rattle.records_refusal.specs.Passing.{header_refusal};
 
 use crate::file_rows::{
     counts_are_bad, facts_are_bad, names_are_declared_twice, node_rows, room_is_short,
     statement_row,
 };
-use crate::outcome::{Refusal, number_of};
-use records::layout::{Header, header_of};
+use crate::headed_file::HeadedFile;
+use crate::outcome::Refusal;
+use records::layout::header_of;
 use records::limits::{MAX_NAMES, MAX_NODES};
+use records::record_file::RecordFile;
 use records_tests::header::{not_a_record_file, other_length, other_version, outside_limits};
 
-// Rows 5 to 11, over a stack with a place for each node and arrays with one for each name.
-fn check(
-    file: &[u8],
-    h: Header,
-    room: usize,
-    stack: &mut [u16],
-    reads: &mut [u16],
-    targets: &mut [u16],
-    seen: &mut [u8],
-) -> Refusal
-    requires header { HeaderPasses file.now h }
-    requires stack { h.nodes ≤ length stack.old }
-    requires reads { Cleared reads.old }
-    requires targets { Cleared targets.old }
-    requires seen { Cleared seen.old }
-    ensures result { number result ≡ refusalOf file.now room }
+// Rows 5 to 11, over a stack with a place for each node.
+fn check(headed: &HeadedFile<'_>, room: usize, stack: &mut [u16]) -> Result<(), Refusal>
+    requires stack { headed.now.file.header.nodes ≤ length stack.old }
+    ensures result { number result ≡ refusalOf headed.now.file.bytes.now room }
 {
-    let bad = facts_are_bad(file, h);
-    let short = room_is_short(file, h, room);
-    if bad {
-        return Refusal::BadFacts;
+    let file = &headed.file;
+    if facts_are_bad(file) {
+        return Err(Refusal::BadFacts);
     }
-    let statements = statement_row(file, h);
-    if statements.bad {
-        return Refusal::BadStatements;
-    }
-    let rows = node_rows(file, h, statements.trees, stack, reads, targets);
-    if rows.bad_nodes {
-        return Refusal::BadNodes;
-    }
-    if rows.bad_trees {
-        return Refusal::BadTrees;
-    }
-    if names_are_declared_twice(file, h, seen) {
-        return Refusal::DeclaredTwice;
-    }
-    if counts_are_bad(file, h, reads, targets) {
-        return Refusal::BadCounts;
-    }
-    if short {
-        return Refusal::NoRoom;
-    }
-    Refusal::Accepted
-}
-
-// The same, with the arrays made here.
-fn check_over(file: &[u8], h: Header, room: usize, stack: &mut [u16]) -> Refusal
-    requires header { HeaderPasses file.now h }
-    requires stack { h.nodes ≤ length stack.old }
-    ensures result { number result ≡ refusalOf file.now room }
-{
+    let trees = statement_row(file)?;
     let mut reads = [0u16; MAX_NAMES as usize];
     let mut targets = [0u16; MAX_NAMES as usize];
-    let mut seen = [0u8; MAX_NAMES as usize];
-    check(file, h, room, stack, &mut reads, &mut targets, &mut seen)
+    node_rows(headed, trees, stack, &mut reads, &mut targets)?;
+    if names_are_declared_twice(file) {
+        return Err(Refusal::DeclaredTwice);
+    }
+    if counts_are_bad(file, &reads, &targets) {
+        return Err(Refusal::BadCounts);
+    }
+    if room_is_short(file, room) {
+        return Err(Refusal::NoRoom);
+    }
+    Ok(())
 }
 
-// The nodes for which the small stack has room.
-const SMALL_STACK: u16 = 240;
-
-// Rows 5 to 11. The stack is made where the header passes. A small file gets a small one, which takes less time to clear.
-pub fn check_records(file: &[u8], h: Header, room: usize) -> Refusal
-    requires header { HeaderPasses file.now h }
-    ensures result { number result ≡ refusalOf file.now room }
+// The same, with a stack for `N` nodes.
+fn check_over<const N: usize>(headed: &HeadedFile<'_>, room: usize) -> Result<(), Refusal>
+    requires size { N * 2 < 9223372036854775808 }
+    requires stack { headed.now.file.header.nodes ≤ N }
+    ensures result { number result ≡ refusalOf headed.now.file.bytes.now room }
 {
-    if h.nodes <= SMALL_STACK {
-        let mut stack = [0u16; SMALL_STACK as usize];
-        return check_over(file, h, room, &mut stack);
-    }
-    let mut stack = [0u16; MAX_NODES as usize];
-    check_over(file, h, room, &mut stack)
+    let mut stack = [0u16; N];
+    check(headed, room, &mut stack)
 }
 
-// Rows 1 to 4, which no room changes: the row of the header that refuses a file, or `Accepted` where none does. Any bytes.
-pub fn header_refusal(file: &[u8]) -> Refusal
-    ensures result { number result ≡ header_refusal file.now }
+const SMALL_STACK: usize = 240;
+
+const LARGE_STACK: usize = MAX_NODES as usize;
+
+// Rows 5 to 11. A small file gets a small stack, which takes less time to clear.
+pub fn check_records(headed: &HeadedFile<'_>, room: usize) -> Result<(), Refusal>
+    ensures result { number result ≡ refusalOf headed.now.file.bytes.now room }
 {
-    if not_a_record_file(file) {
-        return Refusal::NotARecordFile;
+    if usize::from(headed.file.header.nodes) <= SMALL_STACK {
+        check_over::<SMALL_STACK>(headed, room)
+    } else {
+        check_over::<LARGE_STACK>(headed, room)
     }
-    let h = header_of(file);
-    let other = other_version(h);
-    let outside = outside_limits(h);
-    if other {
-        return Refusal::OtherVersion;
+}
+
+// Rows 1 to 4, those of the header. Any bytes. It is inlined, so that a file that is refused isn't laid down first.
+#[inline(always)]
+pub fn read_header(bytes: &[u8]) -> Result<HeadedFile<'_>, Refusal>
+    ensures result { number result ≡ header_refusal bytes.now }
+    ensures bytes { IfOk result (λ headed. headed.file.bytes.now ≡ bytes.now) }
+{
+    if not_a_record_file(bytes) {
+        return Err(Refusal::NotARecordFile);
     }
-    if outside {
-        return Refusal::OutsideLimits;
+    let header = header_of(bytes);
+    if other_version(header) {
+        return Err(Refusal::OtherVersion);
     }
-    if other_length(file, h) {
-        return Refusal::OtherLength;
+    if outside_limits(header) {
+        return Err(Refusal::OutsideLimits);
     }
-    Refusal::Accepted
+    if other_length(bytes, header) {
+        return Err(Refusal::OtherLength);
+    }
+    let file = RecordFile { bytes, header };
+    Ok(HeadedFile { file })
 }
 
 // Whether a file and a room for its result are accepted, or the row of the table that refuses them. Any bytes.
-pub fn refusal(file: &[u8], room: usize) -> Refusal
-    ensures result { number result ≡ refusalOf file.now room }
+pub fn refusal(bytes: &[u8], room: usize) -> Result<(), Refusal>
+    ensures result { number result ≡ refusalOf bytes.now room }
 {
-    let r = header_refusal(file);
-    if number_of(r) > 0 {
-        return r;
-    }
-    check_records(file, header_of(file), room)
+    let headed = read_header(bytes)?;
+    check_records(&headed, room)
 }

@@ -3,5 +3,6 @@
 
 pub mod check;
 pub mod file_rows;
+pub mod headed_file;
 pub mod outcome;
 pub mod scan;

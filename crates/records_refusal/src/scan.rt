@@ -1,162 +1,126 @@
 // The nodes of a file in one pass, from the last to the first, for rows 7, 8 and 10 of the refusal table.
-ghost use Rattle.std.specs.Prelude.{◌≡◌, true, ◌&&◌, ◌+◌, ◌*◌, ◌≤◌, ◌<◌, length};
-ghost use Rattle.records.specs.Limits.{header_length, name_length, node_length};
-ghost use Rattle.records.specs.Records.{every};
-ghost use Rattle.records.specs.File.{nodes_from, names_of, nodes_of};
-ghost use Rattle.records.specs.Node.{good_node};
+ghost use Rattle.std.specs.Prelude.{◌≡◌, ◌≤◌, not, length, IfOk};
+ghost use Rattle.records.specs.File.{names_of, nodes_of, nodes_start};
+ghost use Rattle.records.specs.Node.{bad_nodes};
+ghost use Rattle.records.specs.Refusal.{row};
 ghost use Rattle.records_rows.specs.Tally.{Tally};
-ghost use Rattle.records_refusal.specs.Passing.{HeaderPasses};
+ghost use Rattle.records_refusal.specs.Number.{number};
 ghost use Rattle.records_refusal.specs.Scanning.{good_first, good_trees, Few, Taken};
+ghost use Rattle.records_refusal.specs.Found.{Passes};
 
-use records::layout::{Header, node_at};
+use crate::headed_file::HeadedFile;
+use crate::outcome::Refusal;
+use records::layout::node_at;
 use records::limits::NODE_LENGTH;
-use records::number::size;
+use records::name_table::Names;
 use records::parts::part_offsets;
+use records::record_file::RecordFile;
 use records_rows::count::count_uses;
-use records_rows::place::standing_sets;
 use records_rows::tree::{node_entry, node_stands};
-use records_tests::node::{FEWEST, MOST, node_is_good};
+use records_tests::node::node_is_good;
 
-// Where a pass ended: whether it met no node that is bad by itself, whether it took all nodes, where on the stack the entries
-// of the trees begin, and how many nodes are left.
+// Where a pass stops: at a node that is bad by itself, or at one whose children can't stand, with so many nodes before it.
 #[derive(Clone, Copy)]
-pub struct Scan {
-    pub nodes_good: bool,
-    pub trees_taken: bool,
-    pub top: usize,
-    pub nodes_left: usize,
+enum Stop {
+    BadNode,
+    BadTree(usize),
 }
 
-// The first `count` nodes from the last on, as long as each is good by itself and its children stand where they may. This is
-// called in two places, so that the compiler keeps it a function of its own: in `check` the loop would be longer.
+// The first `count` nodes from the last on, as long as each is good by itself and its children stand where they may: where on the
+// stack the entries of their trees begin. It is kept a function of its own: inlined into `check` the loop would be longer. The slices
+// are lent one by one, here and above: each keeps its length by its type, and as fields of a struct they need clauses that say so.
+#[inline(never)]
 fn scan_trees(
-    file: &[u8],
-    names: u16,
-    from: usize,
+    file: &RecordFile<'_>,
     count: usize,
     stack: &mut [u16],
     reads: &mut [u16],
     targets: &mut [u16],
-) -> Scan
-    requires names { header_length + name_length * names ≤ length file.now }
-    requires nodes { from + node_length * count ≤ length file.now }
+) -> Result<usize, Stop>
+    requires nodes { count ≤ file.now.header.nodes }
     requires stack { count ≤ length stack.old }
     requires places { (length reads.old ≤ 65535) × (length targets.old ≤ 65535) }
     requires reads { Few reads.old count }
     requires targets { Few targets.old count }
-    ensures nodes_good { let bs = file.now in
-        (result.nodes_good && good_first bs names from result.nodes_left) ≡ good_first bs names from count }
-    ensures trees_taken { let bs = file.now in
-        result.trees_taken ≡ (good_first bs names from count && good_trees (nodes_from bs from count)) }
-    ensures taken { let nodes = nodes_from file.now from count in
-        (result.trees_taken ≡ true → Taken nodes reads.old targets.old
-        stack.new reads.new targets.new result.top) }
-    ensures left { (result.nodes_left ≤ count) × (0 < count → result.nodes_left < count) }
-    ensures top { result.top ≤ length stack.old }
-    ensures reads { Few reads.new result.nodes_left }
-    ensures targets { Few targets.new result.nodes_left }
+    ensures pass { Passes result file.now.bytes.now file.now.header.names (nodes_start file.now.header) count
+        stack.old reads.old targets.old stack.new reads.new targets.new }
 {
-    let fewest = FEWEST;
-    let most = MOST;
-    let standing = standing_sets();
+    let parts = part_offsets(file.header);
+    let names = Names {
+        file: file.bytes,
+        count: file.header.names,
+    };
     let mut top = stack.len();
-    let mut left = count;
-    while 0 < left {
-        left -= 1;
-        let at = from + NODE_LENGTH * left;
-        let n = node_at(file, at);
-        if !node_is_good(file, names, n, &fewest, &most) {
-            return Scan {
-                nodes_good: false,
-                trees_taken: false,
-                top,
-                nodes_left: left,
-            };
+    for left in (0..count).rev() {
+        let at = parts[3] + NODE_LENGTH * left;
+        let n = node_at(file.bytes, at);
+        if !node_is_good(&names, n) {
+            return Err(Stop::BadNode);
         }
-        if !node_stands(stack, top, n, &standing) {
-            return Scan {
-                nodes_good: true,
-                trees_taken: false,
-                top,
-                nodes_left: left,
-            };
+        if !node_stands(stack, top, n) {
+            return Err(Stop::BadTree(left));
         }
         let entry = node_entry(stack, top, n);
-        top = top + size(n.children) - 1;
+        top = top + usize::from(n.children) - 1;
         stack[top] = entry;
-        count_uses(file, at, n, reads, targets);
+        count_uses(file.bytes, at, n, reads, targets);
     }
-    Scan {
-        nodes_good: true,
-        trees_taken: true,
-        top,
-        nodes_left: left,
-    }
+    Ok(top)
 }
 
 // Whether the first `count` nodes are good by themselves, whatever their trees are.
 fn nodes_are_good(
-    file: &[u8],
-    names: u16,
-    from: usize,
+    file: &RecordFile<'_>,
     count: usize,
     stack: &mut [u16],
     reads: &mut [u16],
     targets: &mut [u16],
 ) -> bool
-    requires names { header_length + name_length * names ≤ length file.now }
-    requires nodes { from + node_length * count ≤ length file.now }
+    requires nodes { count ≤ file.now.header.nodes }
     requires stack { count ≤ length stack.old }
     requires places { (length reads.old ≤ 65535) × (length targets.old ≤ 65535) }
     requires reads { Few reads.old count }
     requires targets { Few targets.old count }
-    ensures result { result ≡ good_first file.now names from count }
+    ensures result { let h = file.now.header in result ≡ good_first file.now.bytes.now h.names (nodes_start h) count }
 {
     let mut left = count;
-    while 0 < left {
-        let s = scan_trees(file, names, from, left, stack, reads, targets);
-        if !s.nodes_good {
-            return false;
+    loop {
+        match scan_trees(file, left, stack, reads, targets) {
+            Ok(_) => return true,
+            Err(Stop::BadNode) => return false,
+            Err(Stop::BadTree(before)) => left = before,
         }
-        left = s.nodes_left;
     }
-    true
 }
 
-// All nodes. Where the children of one can't stand, the nodes before it are asked for row 7 alone.
+// Row 7, and the first half of row 8: where on the stack the entries of all trees begin. Where the children of a node can't stand,
+// the nodes before it are asked for row 7 alone.
 pub fn scan_nodes(
-    file: &[u8],
-    h: Header,
+    headed: &HeadedFile<'_>,
     stack: &mut [u16],
     reads: &mut [u16],
     targets: &mut [u16],
-) -> Scan
-    requires header { HeaderPasses file.now h }
-    requires stack { h.nodes ≤ length stack.old }
+) -> Result<usize, Refusal>
+    requires stack { headed.now.file.header.nodes ≤ length stack.old }
     requires places { (length reads.old ≤ 65535) × (length targets.old ≤ 65535) }
     requires no_reads { Tally (λ k. 0) reads.old }
     requires no_targets { Tally (λ k. 0) targets.old }
-    ensures nodes_good { let bs = file.now in result.nodes_good ≡ every (good_node (names_of bs)) (nodes_of bs) }
-    ensures trees_taken { let bs = file.now in
-        result.trees_taken ≡ (every (good_node (names_of bs)) (nodes_of bs) && good_trees (nodes_of bs)) }
-    ensures taken { let nodes = nodes_of file.now in
-        (result.trees_taken ≡ true → Taken nodes reads.old targets.old
-        stack.new reads.new targets.new result.top) }
-    ensures top { result.top ≤ length stack.old }
+    ensures rows { let bs = headed.now.file.bytes.now in
+        number result ≡ row 7 (bad_nodes (names_of bs) (nodes_of bs)) (row 8 (not (good_trees (nodes_of bs))) 0) }
+    ensures top { IfOk result (λ top. top ≤ length stack.old) }
+    ensures taken { let nodes = nodes_of headed.now.file.bytes.now in
+        IfOk result (λ top. Taken nodes reads.old targets.old stack.new reads.new targets.new top) }
 {
-    let parts = part_offsets(h);
-    let from = parts[3];
-    let s = scan_trees(file, h.names, from, size(h.nodes), stack, reads, targets);
-    if s.trees_taken {
-        return s;
-    }
-    if !s.nodes_good {
-        return s;
-    }
-    Scan {
-        nodes_good: nodes_are_good(file, h.names, from, s.nodes_left, stack, reads, targets),
-        trees_taken: false,
-        top: s.top,
-        nodes_left: s.nodes_left,
+    let file = &headed.file;
+    match scan_trees(file, usize::from(file.header.nodes), stack, reads, targets) {
+        Ok(top) => Ok(top),
+        Err(Stop::BadNode) => Err(Refusal::BadNodes),
+        Err(Stop::BadTree(before)) => {
+            if nodes_are_good(file, before, stack, reads, targets) {
+                Err(Refusal::BadTrees)
+            } else {
+                Err(Refusal::BadNodes)
+            }
+        }
     }
 }

@@ -1,14 +1,12 @@
 -- Parts laid down one behind the other. Assumes nothing.
-use mathlib.Core.Path.{◌≡◌, refl, sym, ap, ◌∙◌}
-use mathlib.Core.List.{List, [], ◌∷◌, ◌++◌, append_assoc}
+use mathlib.Core.Path.{◌≡◌, refl, sym, ◌∙◌}
+use mathlib.Core.List.{List, ◌++◌, append_assoc}
 use Prim.Native.Nat.{ℕ, ◌+◌, ◌-◌, ◌*◌, ◌≤◌}
 use native.Mathlib.Nat.{sub-zero}
 use native.Mathlib.Omega.{arith}
 use borrow.Rule.Slice.PartMut.{mid_of, put_mid}
-use lib.ListN.{length, get_or, take, drop, length-append}
+use lib.ListN.{length, take, drop, length-append}
 use lib.Seq.{length-take-le}
-use Rattle.records.specs.File.{names_start, scopes_start, frames_start, nodes_start, declarators_start, statements_start, file_length}
-use Rattle.records.specs.declared.layout.Header.{Header}
 use Rattle.records.proofs.Putting.{put_next}
 use Rattle.records_table.proofs.NodePart.{node_part, node_part_length}
 
@@ -35,9 +33,3 @@ module _ (out₀ nodes declarators statements : List ℕ) (n d s : ℕ) where
   tables-put h e p q =
       put_two out₀ (node_part nodes n) (take (4 * d) declarators) (take (4 * s) statements) (12 * n) (4 * d) (4 * s) (node_part_length nodes n)
       (length-take-le (4 * d) declarators h) e (p ∙ rw sub-zero) (q ∙ rw sub-zero)
-
--- where the nodes begin, by the part table of a header
-pub nodes-begin : {header g : Header} (parts : List ℕ) → header ≡ g
-    → parts ≡ names_start header ∷ scopes_start header ∷ frames_start header ∷ nodes_start header ∷ declarators_start header ∷ statements_start header ∷ file_length header ∷ []
-    → get_or parts 3 0 ≡ nodes_start g
-nodes-begin parts e p = ap (λ (l : List ℕ). get_or l 3 0) p ∙ ap (λ (h : Header). nodes_start h) e

@@ -1,12 +1,8 @@
 -- The header of the result.
-use Rattle.std.specs.Prelude.{ℕ, ◌+◌, ◌*◌, ◌<◌}
+use Rattle.std.specs.Prelude.{ℕ, ◌+◌, ◌*◌}
 use Rattle.records.specs.Limits.{node_length, declarator_length, statement_length}
 use Rattle.records.specs.declared.layout.Header.{Header}
 use Rattle.records_result.specs.declared.header.Counts.{Counts}
-
--- counts that a header has room for
-abbrev pub Countable : Counts → Type 0
-Countable counts = (counts.nodes < 65536) × (counts.declarators < 65536) × (counts.statements < 65536)
 
 -- the length of the records that are counted
 abbrev pub tables_length : Counts → ℕ

@@ -4,12 +4,13 @@
 pub mod header;
 
 ghost use Rattle.std.specs.Prelude.{◌≡◌, ◌++◌, ◌+◌, ◌-◌, ◌*◌, ◌≤◌, length, take, drop};
+ghost use Rattle.records.specs.Bytes.{Bytes};
 ghost use Rattle.records.specs.Limits.{header_length, declarator_length, statement_length};
 ghost use Rattle.records.specs.Record.{header_bytes, node_at, node_bytes};
 ghost use Rattle.records.specs.Records.{records_from, bytes_of};
-ghost use Rattle.records.specs.File.{IsHeaderOf, file_length};
+ghost use Rattle.records.specs.File.{file_length};
 ghost use Rattle.records_table.specs.Table.{work_length};
-ghost use Rattle.records_result.specs.Header.{tables_length, result_header, Countable};
+ghost use Rattle.records_result.specs.Header.{tables_length, result_header};
 ghost use Rattle.records_result.specs.Result.{Hold, PutsResult};
 
 use crate::header::{Counts, result_header};
@@ -17,18 +18,21 @@ use records::layout::Header;
 use records::limits::{DECLARATOR_LENGTH, HEADER_LENGTH, NODE_LENGTH, STATEMENT_LENGTH};
 use records::parts::part_offsets;
 use records::put::{put_copy, put_header};
+use records::record_file::RecordFile;
 use records_table::put_nodes;
 
-// The header, and behind it the names, scopes and frames as they stand in the file, up to its byte `end`.
-fn put_facts(out: &mut [u8], file: &[u8], h: Header, end: usize)
+// The header, and behind it the names, scopes and frames as they stand in the file, up to its byte `end`. The slice's type says that
+// its bytes are small; the caller, who has the slice in a struct, learns it here.
+fn put_facts(out: &mut [u8], bytes: &[u8], header: Header, end: usize)
     requires header { header_length ≤ end }
-    requires file { end ≤ length file.now }
+    requires file { end ≤ length bytes.now }
     requires room { end ≤ length out.old }
-    ensures output { let facts = take (end - header_length) (drop header_length file.now) in
-        out.new ≡ header_bytes h ++ (facts ++ drop end out.old) }
+    ensures output { let facts = take (end - header_length) (drop header_length bytes.now) in
+        out.new ≡ header_bytes header ++ (facts ++ drop end out.old) }
+    ensures small { Bytes bytes.now }
 {
-    put_header(out, h);
-    put_copy(&mut out[HEADER_LENGTH..], file, HEADER_LENGTH, end);
+    put_header(out, header);
+    put_copy(&mut out[HEADER_LENGTH..], bytes, HEADER_LENGTH, end);
 }
 
 // The nodes, the declarators and the statements of the tables.
@@ -41,53 +45,42 @@ fn put_tables(out: &mut [u8], nodes: &[u8], declarators: &[u8], statements: &[u8
         ++ (take (statement_length * counts.statements) statements.now
         ++ drop (tables_length counts) out.old)) }
 {
-    put_nodes(out, nodes, counts.nodes);
-    let first = NODE_LENGTH * counts.nodes;
-    put_copy(
-        &mut out[first..],
-        declarators,
-        0,
-        DECLARATOR_LENGTH * counts.declarators,
-    );
-    let next = first + DECLARATOR_LENGTH * counts.declarators;
-    put_copy(
-        &mut out[next..],
-        statements,
-        0,
-        STATEMENT_LENGTH * counts.statements,
-    );
+    let count = usize::from(counts.nodes);
+    put_nodes(out, nodes, count);
+    let first = NODE_LENGTH * count;
+    let declared = DECLARATOR_LENGTH * usize::from(counts.declarators);
+    put_copy(&mut out[first..], declarators, 0, declared);
+    let next = first + declared;
+    let stated = STATEMENT_LENGTH * usize::from(counts.statements);
+    put_copy(&mut out[next..], statements, 0, stated);
 }
 
 // How long the result is that has so many nodes, declarators and statements.
 pub fn result_length(h: Header, counts: Counts) -> usize
-    requires counts { Countable counts }
     ensures result { result ≡ file_length (result_header h counts) }
 {
     let parts = part_offsets(result_header(h, counts));
     parts[6]
 }
 
-// Lays the result down. The facts are those of the file, whose header is `h`; the nodes stand in a work table, the declarators
-// and the statements as in a file.
+// Lays the result down. The facts are those of the file; the nodes stand in a work table, the declarators and the statements as
+// in a file.
 pub fn put_result(
     out: &mut [u8],
-    file: &[u8],
-    h: Header,
+    file: &RecordFile<'_>,
     nodes: &[u8],
     declarators: &[u8],
     statements: &[u8],
     counts: Counts,
 )
-    requires header { IsHeaderOf h file.now }
-    requires counts { Countable counts }
     requires tables { Hold nodes.now declarators.now statements.now counts }
-    requires room { file_length (result_header h counts) ≤ length out.old }
-    ensures output { PutsResult file.now nodes.now declarators.now
+    requires room { file_length (result_header file.now.header counts) ≤ length out.old }
+    ensures output { PutsResult file.now.bytes.now nodes.now declarators.now
         statements.now counts out.old out.new }
 {
-    let header = result_header(h, counts);
+    let header = result_header(file.header, counts);
     let parts = part_offsets(header);
     let end = parts[3];
-    put_facts(out, file, header, end);
+    put_facts(out, file.bytes, header, end);
     put_tables(&mut out[end..], nodes, declarators, statements, counts);
 }

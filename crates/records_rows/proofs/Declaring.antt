@@ -13,7 +13,7 @@ use Rattle.records.specs.Script.{declares, declared_twice}
 use Rattle.records.specs.declared.layout.DeclaratorRecord.{DeclaratorRecord}
 use Rattle.records.proofs.Series.{passed-at}
 use Rattle.records_rows.specs.Tally.{Tally, fits}
-use Rattle.records.proofs.Behind.{one_more, all_left}
+use Rattle.records.proofs.Behind.{one_more}
 use Rattle.records_rows.proofs.Tallies.{tally-set}
 
 -- i of n declarators are left; the array says which names the others declare
@@ -74,10 +74,6 @@ module _ {readAt : ℕ → DeclaratorRecord} {len n from : ℕ} {seen₀ : List 
         (λ k hk. p.tally k hk ∙ rw (ne_eqb d.name k (λ q. omega arith)));
     judged = rw (one_more readAt len n from i j ei p.within, ← ed, eq-eqb d.name 65535 e) p.judged;
   }
-
-  pub declared-all : {seen : List ℕ} {twice : Bool} {i : ℕ} → Declaring readAt len n from seen₀ seen twice i → i ≤ 0
-      → twice ≡ declared_twice (records_from readAt len n from)
-  declared-all {i = i} p h = rw (← all_left readAt len n from i h) p.judged
 
 -- the declarator of a number that has no place in an array of at least 256 is a pattern
 pub pattern_at : (readAt : ℕ → DeclaratorRecord) (len n from j : ℕ) (d : DeclaratorRecord) → every fits (records_from readAt len n from) ≡ true → j < n

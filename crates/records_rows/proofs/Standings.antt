@@ -1,21 +1,19 @@
 -- Children by sets of entries. Assumes nothing.
 use mathlib.Core.Path.{◌≡◌, refl, sym, ap, ap₂, ◌∙◌}
-use mathlib.Core.Bool.{Bool, true, false, not, ◌&&◌, ◌||◌, and-true, and-false}
+use mathlib.Core.Bool.{Bool, true, false, ◌&&◌, ◌||◌, and-false}
 use mathlib.Core.List.{List, ◌∷◌}
 use Prim.Native.Nat.{ℕ, zero, suc, ◌+◌, ◌-◌, ◌*◌, ◌/◌, ◌%◌, ◌≤◌, ◌<◌}
 use native.Mathlib.Omega.{arith}
-use native.Mathlib.Nat.{one-mul}
 use lib.ListN.{length, get_or, take, drop, length-drop}
 use lib.Seq.{drop-cons}
 use lib.Dec.{eqb, eqb-suc-zero}
-use borrow.Author.Tests.{eqb-true, ne_eqb, le-leb, lt-leb, not-true, not-false}
+use borrow.Author.Tests.{eqb-true, ne_eqb, le-leb, lt-leb}
 use Rattle.records.specs.Flags.{optional, shorthand}
 use Rattle.records.specs.Sets.{is_in}
 use Rattle.records.specs.Records.{records_from, every_from}
 use Rattle.records.specs.Node.{is_chain_element}
 use Rattle.records.specs.Place.{is_expression, may_stand, may_be_unchained}
 use Rattle.records.specs.declared.layout.NodeRecord.{NodeRecord}
-use Rattle.records.proofs.Series.{Passed, passed_none, passed-more, passed_bad}
 use Rattle.records.proofs.Sets.{all_below, below, same, same_true}
 use Rattle.records_rows.specs.Stack.{entry, entry_at, entry_unchained, child_stands, first_unchained, children_stand, node_entry, Low, in_sets}
 use Rattle.records_rows.specs.Standing.{standing}
@@ -107,46 +105,26 @@ module _ (n : NodeRecord) (stack : List ℕ) (top children : ℕ) (ec : children
         let bit = eqb-true (n.flags / 16 % 2) 1 f in
         stands_by 256 256 (λ e l. name-stands 0 e refl k bit l) (λ e l. name-stands 1 e refl k bit l)
 
--- a loop over the children
-module _ (stack : List ℕ) (top count first later : ℕ) where
-  -- so many have been passed, the first among them
-  pub record Passing (i : ℕ) : Type 0 where
-    pub passed : Passed (in_sets first later) (entry_at stack) 1 count top true i
-    pub some : 1 ≤ i
+-- the first child is held against one set, the others against the other
+module _ (stack : List ℕ) (first later : ℕ) where
+  later-sets : (n i at : ℕ) → 1 ≤ i → every_from (λ k. is_in later) i (records_from (entry_at stack) 1 n at) ≡ every_from (in_sets first later) i (records_from (entry_at stack) 1 n at)
+  unfolding every_from records_from in_sets
+  later-sets zero i at h = refl
+  later-sets (suc n) i at h = rw (ne_eqb i 0 (λ z. omega arith)) (ap (λ (b : Bool). is_in later (entry_at stack at) && b) (later-sets n (i + 1) (at + 1) (omega arith)))
 
-  here : get_or stack top 0 ≡ entry_at stack (top + 1 * 0)
-  unfolding entry_at
-  here = ap (λ (k : ℕ). get_or stack k 0) (omega arith)
+  children : (count top : ℕ) → 1 ≤ count → (is_in first (get_or stack top 0) && every_from (λ k. is_in later) 1 (records_from (entry_at stack) 1 (count - 1) (top + 1)))
+      ≡ every_from (in_sets first later) 0 (records_from (entry_at stack) 1 count top)
+  unfolding every_from records_from in_sets entry_at
+  children zero top h = absurd (omega arith)
+  children (suc n) top h = let e : suc n - 1 ≡ n = omega arith in rw e (ap (λ (b : Bool). is_in first (get_or stack top 0) && b) (later-sets n 1 (top + 1) (omega arith)))
 
-  module _ (r : Bool) (h : 1 ≤ count) (er : r ≡ is_in first (get_or stack top 0)) where
-    pub first-passed : not r ≡ false → Passing 1
-    unfolding in_sets
-    first-passed e = record { passed = passed-more (get_or stack top 0) true passed_none h here (sym (not-false r e) ∙ er); some = omega arith }
+  module _ (count top : ℕ) (some : 1 ≤ count) {r : Bool} (er : r ≡ is_in first (get_or stack top 0)) where
+    pub first-in : r ≡ true → {rest : Bool} → rest ≡ every_from (λ k. is_in later) 1 (records_from (entry_at stack) 1 (count - 1) (top + 1))
+        → rest ≡ every_from (in_sets first later) 0 (records_from (entry_at stack) 1 count top)
+    first-in h e = e ∙ rw (← children count top some, ← er, h)
 
-    pub first_failed : not r ≡ true → false ≡ every_from (in_sets first later) 0 (records_from (entry_at stack) 1 count top)
-    unfolding in_sets
-    first_failed e = passed_bad (get_or stack top 0) passed_none h here (sym (not-true r e) ∙ er)
-
-  module _ (r : Bool) (i : ℕ) (p : Passing i) (h : i < count) (er : r ≡ is_in later (get_or stack (top + i) 0)) where
-    later_in : in_sets first later i (get_or stack (top + i) 0) ≡ r
-    unfolding in_sets
-    later_in = rw (ne_eqb i 0 (λ z. omega (arith, p.some))) (sym er)
-
-    pub later-passed : not r ≡ false → Passing (i + 1)
-    unfolding entry_at
-    later-passed e = record { passed = passed-more (get_or stack (top + i) 0) true p.passed h (rw one-mul) (sym (later_in ∙ not-false r e)); some = omega arith }
-
-    pub later_failed : not r ≡ true → false ≡ every_from (in_sets first later) 0 (records_from (entry_at stack) 1 count top)
-    unfolding entry_at
-    later_failed e = passed_bad (get_or stack (top + i) 0) p.passed h (rw one-mul) (sym (later_in ∙ not-true r e))
-
--- the branches of the code that makes an entry
-module _ (k : ℕ) (element o d : Bool) where
-  pub entry-either : (o || d) ≡ true → entry k element ≡ entry k (element && (o || d))
-  entry-either e = rw (e, and-true element)
-
-  pub entry-neither : (o || d) ≡ false → entry k false ≡ entry k (element && (o || d))
-  entry-neither e = rw (e, and-false element)
+    pub first_out : r ≡ false → r ≡ every_from (in_sets first later) 0 (records_from (entry_at stack) 1 count top)
+    first_out h = rw (← children count top some, ← er, h)
 
 unchained_of : (many e : ℕ) (es : List ℕ) → (many ≡ 0 → ⊥) → first_unchained (take many (e ∷ es)) ≡ entry_unchained e
 unfolding first_unchained

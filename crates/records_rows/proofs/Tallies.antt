@@ -25,14 +25,7 @@ pub tally-set : (f : ℕ → ℕ) (xs : List ℕ) (a v : ℕ) → a < length xs 
 tally-set f xs a v h t k hk =
     set_at xs a v k h (eqb a k) refl ∙ ap (λ (m : ℕ). cond (eqb a k) v m) (t k (omega (arith, length-set xs a v)))
 
--- one use more, of a name with a place and of one without
-more-at : (xs : List ℕ) (a k : ℕ) (b : Bool) → eqb a k ≡ b → cond b (get_or xs a 0 + 1) (get_or xs k 0) ≡ one b + get_or xs k 0
-more-at xs a k true e = rw (← eqb-true a k e) (omega arith)
-more-at xs a k false e = omega arith
-
-pub use_added : (xs : List ℕ) (a : ℕ) → a < length xs → Tally (λ k. one (eqb a k) + get_or xs k 0) (set xs a (get_or xs a 0 + 1))
-use_added xs a h k hk = set_at xs a (get_or xs a 0 + 1) k h (eqb a k) refl ∙ more-at xs a k (eqb a k) refl
-
+-- one use more, of a name without a place
 pub not_added : (xs : List ℕ) (a : ℕ) → length xs ≤ a → Tally (λ k. one (eqb a k) + get_or xs k 0) xs
 not_added xs a h k hk = rw (ne_eqb a k (λ e. omega arith)) (sym (zero-add (get_or xs k 0)))
 

@@ -1,6 +1,6 @@
 // Row 10 of the refusal table: the names that a node reads and targets, and the uses of each name against its facts.
-ghost use Rattle.std.specs.Prelude.{◌≡◌, true, false, ℕ, ◌+◌, ◌*◌, ◌≤◌, ◌<◌, length, get_or};
-ghost use Rattle.records.specs.Limits.{header_length, name_length, node_length};
+ghost use Rattle.std.specs.Prelude.{◌≡◌, true, false, ℕ, ◌+◌, ◌*◌, ◌≤◌, ◌<◌, length, get_or, MatchOption};
+ghost use Rattle.records.specs.Limits.{header_length, name_length, node_length, no_number};
 ghost use Rattle.records.specs.Record.{node_at};
 ghost use Rattle.records.specs.Flags.{compound};
 ghost use Rattle.records.specs.Node.{is_named};
@@ -10,21 +10,18 @@ ghost use Rattle.records.specs.Tree.{node_of};
 ghost use Rattle.records.specs.Count.{target_name, good_counts};
 ghost use Rattle.records_rows.specs.Tally.{AddsUse, record_read};
 
-use records::flags::{is_compound, is_mutated, is_recorded, is_unresolved};
 use records::kinds::{NAME, TARGET_NAME};
 use records::layout::{NameFacts, NameId, NodeRecord, name_at, node_at};
-use records::limits::{HEADER_LENGTH, NAME_LENGTH, NO_NUMBER, NODE_LENGTH};
-use records::number::{size, wide16};
+use records::limits::{HEADER_LENGTH, NAME_LENGTH, NODE_LENGTH};
 
-// The name of a target name, else 65535.
-fn target_name(n: NodeRecord) -> NameId
-    ensures result { result.0 ≡ target_name (node_of n) }
+// The name of a target name.
+fn target_name(n: NodeRecord) -> Option<NameId>
+    ensures result { MatchOption result (target_name (node_of n) ≡ no_number) (λ name. name.0 ≡ target_name (node_of n)) }
 {
-    let target = n.kind == TARGET_NAME;
-    if target {
-        return NameId(n.label);
+    if n.kind == TARGET_NAME {
+        return Some(NameId(n.label));
     }
-    NameId(NO_NUMBER)
+    None
 }
 
 // One use more of a name that has a place in the array.
@@ -32,13 +29,14 @@ fn add_use(uses: &mut [u16], name: NameId)
     requires count { get_or uses.old name.0 0 < 65535 }
     ensures uses { AddsUse name.0 uses.old uses.new }
 {
-    let at = size(name.0);
+    let at = usize::from(name.0);
     if at < uses.len() {
         uses[at] += 1;
     }
 }
 
 // The names that a node at `at` uses: a name read, a target, or that of the next node, which a compound assignment reads.
+// Each slice keeps its length by its type; as fields of a struct the two would need clauses that say so.
 pub fn count_uses(file: &[u8], at: usize, n: NodeRecord, reads: &mut [u16], targets: &mut [u16])
     requires names { 0 < n.children → is_named n.kind ≡ false }
     requires compound { compound n.flags ≡ true → n.kind ≡ 20 }
@@ -61,24 +59,25 @@ pub fn count_uses(file: &[u8], at: usize, n: NodeRecord, reads: &mut [u16], targ
         }
         return;
     }
-    if is_compound(n) {
-        add_use(reads, target_name(node_at(file, at + NODE_LENGTH)));
-        return;
+    if n.is_compound() {
+        if let Some(name) = target_name(node_at(file, at + NODE_LENGTH)) {
+            add_use(reads, name);
+        }
     }
 }
 
 pub fn count_is_good(n: NameFacts, reads: u16, targets: u16) -> bool
     ensures result { result ≡ good_counts n reads targets }
 {
-    let recorded = is_recorded(n);
-    let mutated = is_mutated(n);
-    let unresolved = is_unresolved(n);
+    let recorded = n.is_recorded();
+    let mutated = n.is_mutated();
+    let unresolved = n.is_unresolved();
     unresolved
-        | recorded & (wide16(reads) <= n.reads) & (wide16(targets) <= n.writes)
+        | recorded & (u32::from(reads) <= n.reads) & (u32::from(targets) <= n.writes)
         | !recorded & ((targets == 0) | mutated)
 }
 
-// Whether each name's facts allow so many reads and targets.
+// Whether each name's facts allow so many reads and targets. `names` keeps its clause: `Names` counts up to 65535, which asks more.
 pub fn counts_are_good(file: &[u8], names: usize, reads: &[u16], targets: &[u16]) -> bool
     requires names { header_length + name_length * names ≤ length file.now }
     requires reads { names ≤ length reads.now }
@@ -86,16 +85,8 @@ pub fn counts_are_good(file: &[u8], names: usize, reads: &[u16], targets: &[u16]
     ensures result { let rs = reads.now in let ts = targets.now in
         result ≡ every_from (λ k n. good_counts n (get_or rs k 0) (get_or ts k 0)) 0 (facts_from file.now header_length names) }
 {
-    let mut good = true;
-    let mut i = 0;
-    while i < names {
-        good = good
-            & count_is_good(
-                name_at(file, HEADER_LENGTH + NAME_LENGTH * i),
-                reads[i],
-                targets[i],
-            );
-        i += 1;
-    }
-    good
+    (0..names).all(|i| {
+        let facts = name_at(file, HEADER_LENGTH + NAME_LENGTH * i);
+        count_is_good(facts, reads[i], targets[i])
+    })
 }

@@ -1,6 +1,6 @@
 // Row 9 of the refusal table: a name declared twice, in one pass over the declarators.
-ghost use Rattle.std.specs.Prelude.{◌≡◌, true, ◌+◌, ◌*◌, ◌≤◌, ◌<◌, length};
-ghost use Rattle.records.specs.Limits.{max_names, declarator_length};
+ghost use Rattle.std.specs.Prelude.{◌≡◌, true, ◌≤◌, ◌<◌, length};
+ghost use Rattle.records.specs.Limits.{max_names};
 ghost use Rattle.records.specs.Records.{every};
 ghost use Rattle.records.specs.File.{declarators_from};
 ghost use Rattle.records.specs.Script.{declared_twice};
@@ -8,23 +8,22 @@ ghost use Rattle.records_rows.specs.Tally.{Tally, fits};
 
 use records::layout::declarator_at;
 use records::limits::DECLARATOR_LENGTH;
-use records::number::size;
+use records::part::Part;
 
-// Whether a name is declared twice by the declarators from `from` on. `seen` has a place for each name.
-pub fn declared_twice(file: &[u8], from: usize, count: usize, seen: &mut [u8]) -> bool
-    requires declarators { from + declarator_length * count ≤ length file.now }
+// Whether a name is declared twice by the declarators. `seen` has a place for each name: 0 or 1, not a `bool`, since `unseen`
+// (`Tally`) is about numbers.
+pub fn declared_twice(declarators: &Part<'_, DECLARATOR_LENGTH>, seen: &mut [u8]) -> bool
     requires places { max_names ≤ length seen.old }
     requires limit { length seen.old < 65535 }
     requires unseen { Tally (λ k. 0) seen.old }
-    requires names { every fits (declarators_from file.now from count) ≡ true }
-    ensures result { result ≡ declared_twice (declarators_from file.now from count) }
+    requires names { let p = declarators.now in every fits (declarators_from p.file.now p.from p.count) ≡ true }
+    ensures result { let p = declarators.now in result ≡ declared_twice (declarators_from p.file.now p.from p.count) }
 {
+    let Part { file, from, count } = *declarators;
     let mut twice = false;
-    let mut i = count;
-    while 0 < i {
-        i -= 1;
+    for i in (0..count).rev() {
         let d = declarator_at(file, from + DECLARATOR_LENGTH * i);
-        let at = size(d.name);
+        let at = usize::from(d.name);
         if at < seen.len() {
             twice = (seen[at] == 1) | twice;
             seen[at] = 1;

@@ -3,7 +3,6 @@ ghost use Rattle.std.specs.Prelude.{◌≡◌, ◌+◌, ◌≤◌, length};
 ghost use Rattle.records.specs.Records.{every, every_from};
 ghost use Rattle.records.specs.Node.{is_chain_element as isChainElementKind};
 ghost use Rattle.records_rows.specs.Stack.{entry as entry_of, entries_from, root_stands, in_sets, Low};
-ghost use Rattle.records_rows.specs.Standing.{standing};
 
 use records::kinds::{CALL, COMPUTED_MEMBER, PRIVATE_MEMBER, STATIC_MEMBER, is_expression};
 use records::set::has_bit;
@@ -11,10 +10,10 @@ use records::set::has_bit;
 pub fn is_chain_element(kind: u16) -> bool
     ensures result { result ≡ isChainElementKind kind }
 {
-    (kind == STATIC_MEMBER as u16)
-        | (kind == PRIVATE_MEMBER as u16)
-        | (kind == COMPUTED_MEMBER as u16)
-        | (kind == CALL as u16)
+    (kind == u16::from(STATIC_MEMBER))
+        | (kind == u16::from(PRIVATE_MEMBER))
+        | (kind == u16::from(COMPUTED_MEMBER))
+        | (kind == u16::from(CALL))
 }
 
 // A tree is unchained if it has an optional node that isn't yet under its CHAIN: one that the root reaches by first children of
@@ -51,7 +50,7 @@ const ARGUMENTS: u64 = 0x0105_5555_5555_5555;
 pub const NAMES: u64 = 0x0000_0000_0000_0100;
 
 // Two sets for each kind: what may stand as its first child, except under a shorthand property, and what as a later one.
-const STANDING: [u64; 62] = [
+pub static STANDING: [u64; 62] = [
     EXPRESSIONS, // OTHER
     EXPRESSIONS,
     EXPRESSIONS, // LITERAL
@@ -116,18 +115,12 @@ const STANDING: [u64; 62] = [
     EXPRESSIONS,
 ];
 
-// The table is lent: a constant would be laid down anew for each node.
-pub fn standing_sets() -> [u64; 62]
-    ensures result { result ≡ standing }
-{
-    STANDING
-}
-
-// What is kept of a tree: its root's kind, and whether it is unchained.
+// What is kept of a tree: its root's kind, and whether it is unchained. It is one number, a bit of the sets above:
+// `specs/Stack.antt` defines it so.
 pub fn entry(kind: u8, unchained: bool) -> u16
     ensures result { result ≡ entry_of kind unchained }
 {
-    let twice = 2 * (kind as u16);
+    let twice = 2 * u16::from(kind);
     if unchained {
         return twice + 1;
     }
@@ -141,6 +134,8 @@ pub fn root_stands(e: u16) -> bool
     is_expression(e / 2) & !unchained
 }
 
+// The stack is one slice that is filled from its end, and its entries begin at `top` (no heap).
+//
 // Whether the first of the children whose entries stand at `top` is in one set, and the others are in another.
 pub fn children_stand(stack: &[u16], top: usize, count: usize, first: u64, later: u64) -> bool
     requires some { 1 ≤ count }
@@ -148,17 +143,7 @@ pub fn children_stand(stack: &[u16], top: usize, count: usize, first: u64, later
     requires entries { Low stack.now top }
     ensures result { result ≡ every_from (in_sets first later) 0 (entries_from stack.now top count) }
 {
-    if !has_bit(first, stack[top]) {
-        return false;
-    }
-    let mut i = 1;
-    while i < count {
-        if !has_bit(later, stack[top + i]) {
-            return false;
-        }
-        i += 1;
-    }
-    true
+    has_bit(first, stack[top]) && (1..count).all(|i| has_bit(later, stack[top + i]))
 }
 
 // Whether the trees whose entries stand at `top` may be the trees of statements.
@@ -166,14 +151,6 @@ pub fn roots_stand(stack: &[u16], top: usize, count: usize) -> bool
     requires room { top + count ≤ length stack.now }
     ensures result { result ≡ every root_stands (entries_from stack.now top count) }
 {
-    if count == 1 {
-        return root_stands(stack[top]);
-    }
-    let mut good = true;
-    let mut i = 0;
-    while i < count {
-        good = good & root_stands(stack[top + i]);
-        i += 1;
-    }
-    good
+    let entries = &stack[top..top + count];
+    entries.iter().all(|entry| root_stands(*entry))
 }

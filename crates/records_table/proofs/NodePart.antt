@@ -56,6 +56,3 @@ module _ {table : List ℕ} {n : ℕ} {out₀ : List ℕ} where
         long = ap length same ∙ omega (arith, length-append (node_part table (i + 1)) (drop (12 * (i + 1)) out₀), node_part_length table (i + 1), length-drop (12 * (i + 1)) out₀);
         same = same;
       }
-
-  pub laid-all : {out : List ℕ} {i : ℕ} → Laid table n out₀ out i → n ≤ i → out ≡ node_part table n ++ drop (12 * n) out₀
-  laid-all {i = i} p h = let e : n ≡ i = omega (arith, p.within) in rw e p.same

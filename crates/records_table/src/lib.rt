@@ -23,30 +23,18 @@ fn record_at(s: &[u8], at: usize) -> [u8; 12]
     requires record { at + node_length ≤ length s.now }
     ensures result { result ≡ node_bytes (node_at s.now at) }
 {
-    [
-        s[at],
-        s[at + 1],
-        s[at + 2],
-        s[at + 3],
-        s[at + 4],
-        s[at + 5],
-        s[at + 6],
-        s[at + 7],
-        s[at + 8],
-        s[at + 9],
-        s[at + 10],
-        s[at + 11],
-    ]
+    let mut record = [0; NODE_LENGTH];
+    record.copy_from_slice(&s[at..at + NODE_LENGTH]);
+    record
 }
 
 // A record of the table, its end unknown.
 fn work_bytes(b: [u8; 12]) -> [u8; 16]
     ensures result { (n : NodeRecordOf) → b ≡ node_bytes n → result ≡ work_bytes n }
 {
-    [
-        b[0], b[1], b[2], b[3], b[4], b[5], b[6], b[7], b[8], b[9], b[10], b[11], 255, 255, 255,
-        255,
-    ]
+    let mut record = [255; WORK_LENGTH];
+    copy(&b, &mut record);
+    record
 }
 
 // Lays a record of the table down at the start of `out`.
@@ -85,11 +73,9 @@ pub fn put_nodes(out: &mut [u8], table: &[u8], count: usize)
     ensures output { out.new ≡ bytes_of node_bytes (records_from (node_at table.now) work_length count 0)
         ++ drop (node_length * count) out.old }
 {
-    let mut i = 0;
-    while i < count {
+    for i in 0..count {
         let at = NODE_LENGTH * i;
         put_record(&mut out[at..], table, WORK_LENGTH * i);
-        i += 1;
     }
 }
 

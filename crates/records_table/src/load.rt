@@ -5,11 +5,11 @@ ghost use Rattle.records_table.specs.Loads.{HasRoom, Loads};
 use crate::copy_node;
 use records::layout::{NodeId, node_at};
 use records::limits::NODE_LENGTH;
-use records::number::size;
 
 // Copies the tree that begins with node `tree` of the file, whose first node stands at byte `nodes_start`, behind the nodes in
 // use of the table. Returns how many nodes it has. A node of the table has four words of four bytes. The next node goes to
-// `word`, and the nodes that are known of end at `end`: the first, and the children of those that are copied.
+// `word`, and the nodes that are known of end at `end`: the first, and the children of those that are copied. So the end moves,
+// and the loop is none over a range.
 pub fn load_tree(
     file: &[u8],
     nodes_start: usize,
@@ -29,7 +29,7 @@ pub fn load_tree(
         let to = 4 * word;
         copy_node(file, next, &mut nodes[to..]);
         let n = node_at(file, next);
-        end += 4 * size(n.children);
+        end += 4 * usize::from(n.children);
         next += NODE_LENGTH;
         word += 4;
     }

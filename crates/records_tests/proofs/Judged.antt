@@ -3,6 +3,7 @@ use mathlib.Core.Path.{◌≡◌, refl, sym, ap, ◌∙◌}
 use mathlib.Core.Bool.{Bool, true, false, ◌&&◌, ◌||◌, not, cond, and-true, and-false, true≢false, false≢true}
 use Prim.Native.Nat.{ℕ, ◌≤◌, ◌<◌}
 use native.Mathlib.Omega.{arith}
+use mathlib.Core.List.{List}
 use lib.ListN.{get_or}
 use lib.Dec.{eqb, ltb, leb}
 use borrow.Author.Tests.{eq-eqb, ne_eqb, eqb-true, le-leb, lt-leb, lt-ltb, le-ltb, leb-true}
@@ -149,24 +150,27 @@ module _ (n : NodeRecord) (low : n.kind ≤ 30) (byte : n.flags < 256) (some : 0
         → (eqb n.flags 4 && (eqb n.kind 2 || eqb n.kind 3) || eqb n.flags 5 && eqb n.kind 3) ≡ flagged n
     flags-anonymous p a = rw (← flags-tested, ne_eqb n.flags 1 m, le-ltb n.flags 4 o, ne_eqb n.kind 26 p, ne_eqb n.kind 20 a)
 
--- the children by the tests of the code
-module _ (n : NodeRecord) where
-  pub children-few : n.children < get_or fewest n.kind 0 → false ≡ good_children n
+-- the children by the tests of the code, which has the two tables as lists
+module _ (n : NodeRecord) {fewest-list most-list : List ℕ} (ef : fewest-list ≡ fewest) (em : most-list ≡ most) where
+  pub children-few : n.children < get_or fewest-list n.kind 0 → false ≡ good_children n
   unfolding good_children
-  children-few h = rw (lt-leb (get_or fewest n.kind 0) n.children h)
+  children-few h = rw (lt-leb (get_or fewest n.kind 0) n.children (rw ef at h))
 
-  pub children-many : get_or most n.kind 0 < n.children → false ≡ good_children n
+  pub children-many : get_or most-list n.kind 0 < n.children → false ≡ good_children n
   unfolding good_children
-  children-many h = rw (lt-leb n.children (get_or most n.kind 0) h, and-false)
+  children-many h = rw (lt-leb n.children (get_or most n.kind 0) (rw em at h), and-false)
 
-  module _ (few : get_or fewest n.kind 0 ≤ n.children) (many : n.children ≤ get_or most n.kind 0) where
+  module _ (few : get_or fewest-list n.kind 0 ≤ n.children) (many : n.children ≤ get_or most-list n.kind 0) where
+    in-range : (leb (get_or fewest n.kind 0) n.children ≡ true) × (leb n.children (get_or most n.kind 0) ≡ true)
+    in-range = (le-leb (get_or fewest n.kind 0) n.children (rw ef at few), le-leb n.children (get_or most n.kind 0) (rw em at many))
+
     pub children-property : n.kind ≡ 26 → (two_children n.flags && eqb n.children 2 || not (two_children n.flags) && eqb n.children 1) ≡ good_children n
     unfolding good_children
-    children-property k = rw (le-leb (get_or fewest n.kind 0) n.children few, le-leb n.children (get_or most n.kind 0) many, eq-eqb n.kind 26 k)
+    children-property k = rw (in-range.0, in-range.1, eq-eqb n.kind 26 k)
 
     pub children-other : (n.kind ≡ 26 → ⊥) → true ≡ good_children n
     unfolding good_children
-    children-other k = rw (le-leb (get_or fewest n.kind 0) n.children few, le-leb n.children (get_or most n.kind 0) many, ne_eqb n.kind 26 k)
+    children-other k = rw (in-range.0, in-range.1, ne_eqb n.kind 26 k)
 
 -- of tests that all hold
 three_of : (a b c d g m k : Bool) → (a && b && c && d && g && m && k) ≡ true → (a ≡ true) × (g ≡ true) × (k ≡ true)

@@ -1,2 +1,3 @@
 -- The laws that the proofs of several functions cite.
 pub mod Judged
+pub mod Letters

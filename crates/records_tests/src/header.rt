@@ -8,31 +8,27 @@ use records::limits::{
     HEADER_LENGTH, MAX_DECLARATORS, MAX_FRAMES, MAX_NAMES, MAX_NODES, MAX_SCOPES, MAX_STATEMENTS,
     MIN_SCOPES, MIN_STATEMENTS, NO_NUMBER, VERSION,
 };
-use records::number::wide16;
 use records::parts::part_offsets;
 
 // Row 1.
 pub fn not_a_record_file(file: &[u8]) -> bool
     ensures result { result ≡ not_a_record_file file.now }
 {
-    if file.len() < HEADER_LENGTH {
-        return true;
-    }
-    !((file[0] == b'W') & (file[1] == b'S') & (file[2] == b'F'))
+    file.len() < HEADER_LENGTH || !file.starts_with(b"WSF")
 }
 
 // Row 2.
 pub fn other_version(h: Header) -> bool
     ensures result { result ≡ other_version h }
 {
-    !(h.version == VERSION)
+    h.version != VERSION
 }
 
 // Row 3.
 pub fn outside_limits(h: Header) -> bool
     ensures result { result ≡ outside_limits h }
 {
-    let records = wide16(h.nodes) + 2 * wide16(h.declarators);
+    let records = u32::from(h.nodes) + 2 * u32::from(h.declarators);
     let counts_fit = (h.names <= MAX_NAMES)
         & (MIN_SCOPES <= h.scopes)
         & (h.scopes <= MAX_SCOPES)
@@ -52,5 +48,5 @@ pub fn other_length(file: &[u8], h: Header) -> bool
     ensures result { result ≡ other_length file.now h }
 {
     let parts = part_offsets(h);
-    !(file.len() == parts[6])
+    file.len() != parts[6]
 }

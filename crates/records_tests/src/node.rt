@@ -1,29 +1,23 @@
 // Row 7 of the refusal table: a node by itself.
-ghost use Rattle.std.specs.Prelude.{◌≡◌, ◌&&◌, ◌||◌, not, ◌+◌, ◌*◌, ◌≤◌, ◌<◌, length, ltb};
-ghost use Rattle.records.specs.Limits.{header_length, name_length};
+ghost use Rattle.std.specs.Prelude.{◌≡◌, ◌&&◌, ◌||◌, not, ◌≤◌, ◌<◌, ltb};
+ghost use Rattle.records.specs.Limits.{header_length};
 ghost use Rattle.records.specs.Flags.{marked as is_marked, unresolved as isUnresolved};
 ghost use Rattle.records.specs.File.{facts_from};
 ghost use Rattle.records.specs.Script.{flags_of};
-ghost use Rattle.records.specs.Node.{fewest as fewestOf, most as most_of, good_children, good_flags, may_mark, good_node};
+ghost use Rattle.records.specs.Node.{good_children, good_flags, may_mark, good_node};
 
-use records::facts::facts_of;
-use records::flags::{
-    ANONYMOUS, COMPOUND, COMPUTED, MARKED, OPTIONAL, PROTO, SHORTHAND, is_computed, is_marked,
-    is_proto, is_unresolved,
-};
-use records::kinds::{
-    ASSIGNMENT, CLASS, FUNCTION, NAME, OPAQUE_TARGET, PROPERTY, SEQUENCE, SPREAD, TARGET_NAME,
-};
+use records::flags::{ANONYMOUS, COMPOUND, COMPUTED, MARKED, OPTIONAL, PROTO, SHORTHAND};
+use records::kinds::{ASSIGNMENT, CLASS, FUNCTION, NAME, OPAQUE_TARGET, PROPERTY, TARGET_NAME};
 use records::layout::{NameId, NodeRecord};
 use records::limits::NO_POSITION;
-use records::number::wide;
+use records::name_table::Names;
 use records::set::has_bit;
 
 // Any number of children.
 const ANY: u16 = 65535;
 
 // The fewest and the most children of each kind.
-pub const FEWEST: [u16; 31] = [
+pub static FEWEST: [u16; 31] = [
     0, // OTHER
     0, // LITERAL
     0, // FUNCTION
@@ -57,7 +51,7 @@ pub const FEWEST: [u16; 31] = [
     0, // OPAQUE_TARGET
 ];
 
-pub const MOST: [u16; 31] = [
+pub static MOST: [u16; 31] = [
     0, // OTHER
     0, // LITERAL
     0, // FUNCTION
@@ -98,22 +92,20 @@ const MARKABLE: u64 = 0x63ff_dfd9;
 // STATIC_MEMBER, PRIVATE_MEMBER, COMPUTED_MEMBER and CALL.
 const CHAIN_ELEMENT_KINDS: u64 = 0x5c00;
 
-// The two tables are lent: a constant would be laid down anew for each node.
-fn children_are_good(n: NodeRecord, fewest: &[u16], most: &[u16]) -> bool
+// `kind` stays a clause, also below and in `node_stands`: row 7 asks for the kind, and a record of any kind is a `NodeRecord`.
+fn children_are_good(n: NodeRecord) -> bool
     requires kind { n.kind ≤ 30 }
-    requires fewest { fewest.now ≡ fewestOf }
-    requires most { most.now ≡ most_of }
     ensures result { result ≡ good_children n }
 {
-    let kind = n.kind as usize;
-    if n.children < fewest[kind] {
+    let kind = n.kind as usize; // by `From` the proof didn't close
+    if n.children < FEWEST[kind] {
         return false;
     }
-    if most[kind] < n.children {
+    if MOST[kind] < n.children {
         return false;
     }
     if n.kind == PROPERTY {
-        let two = is_computed(n) & !is_proto(n);
+        let two = n.is_computed() & !n.is_proto();
         return two & (n.children == 2) | !two & (n.children == 1);
     }
     true
@@ -126,10 +118,10 @@ fn flags_are_good(n: NodeRecord) -> bool
     ensures result { result ≡ (good_flags n && (not (is_marked n.flags) || may_mark 128 n)) }
 {
     if n.flags == MARKED {
-        return has_bit(MARKABLE, wide(n.kind));
+        return has_bit(MARKABLE, u16::from(n.kind));
     }
     if n.flags <= OPTIONAL + MARKED {
-        return has_bit(CHAIN_ELEMENT_KINDS, wide(n.kind));
+        return has_bit(CHAIN_ELEMENT_KINDS, u16::from(n.kind));
     }
     if n.kind == PROPERTY {
         return (n.flags == SHORTHAND)
@@ -145,27 +137,23 @@ fn flags_are_good(n: NodeRecord) -> bool
         | (n.flags == ANONYMOUS + MARKED) & (n.kind == CLASS)
 }
 
-// The label of a name among `names` names, and its mark.
-fn label_is_good(file: &[u8], names: u16, n: NodeRecord) -> bool
-    requires names { header_length + name_length * names ≤ length file.now }
-    ensures result { let flags = flags_of (facts_from file.now header_length names) n.label in
-        result ≡ (ltb n.label names && (not (is_marked n.flags) || isUnresolved flags)) }
+// The label of a name, and its mark.
+fn label_is_good(names: &Names<'_>, n: NodeRecord) -> bool
+    ensures result { let flags = flags_of (facts_from names.now.file.now header_length names.now.count) n.label in
+        result ≡ (ltb n.label names.now.count && (not (is_marked n.flags) || isUnresolved flags)) }
 {
-    if names <= n.label {
+    if names.count <= n.label {
         return false;
     }
-    if is_marked(n) {
-        return is_unresolved(facts_of(file, names, NameId(n.label)));
+    if n.is_marked() {
+        return names.facts_of(NameId(n.label)).is_unresolved();
     }
     true
 }
 
 // A node by itself. Of those whose children are good only nodes without children are names.
-pub fn node_is_good(file: &[u8], names: u16, n: NodeRecord, fewest: &[u16], most: &[u16]) -> bool
-    requires names { header_length + name_length * names ≤ length file.now }
-    requires fewest { fewest.now ≡ fewestOf }
-    requires most { most.now ≡ most_of }
-    ensures result { result ≡ good_node (facts_from file.now header_length names) n }
+pub fn node_is_good(names: &Names<'_>, n: NodeRecord) -> bool
+    ensures result { result ≡ good_node (facts_from names.now.file.now header_length names.now.count) n }
 {
     if OPAQUE_TARGET < n.kind {
         return false;
@@ -181,13 +169,13 @@ pub fn node_is_good(file: &[u8], names: u16, n: NodeRecord, fewest: &[u16], most
             return false;
         }
     }
-    if !children_are_good(n, fewest, most) {
+    if !children_are_good(n) {
         return false;
     }
     if n.children == 0 {
         let named = (n.kind == NAME) | (n.kind == TARGET_NAME);
         if named {
-            return label_is_good(file, names, n);
+            return label_is_good(names, n);
         }
     }
     true

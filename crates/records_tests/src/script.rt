@@ -1,25 +1,24 @@
 // Row 6 of the refusal table: declarators and statements by themselves; with the counts that the number of trees follows from.
-ghost use Rattle.std.specs.Prelude.{◌≡◌, ◌+◌, ◌*◌, ◌≤◌, length};
-ghost use Rattle.records.specs.Limits.{header_length, name_length, declarator_length, statement_length};
+ghost use Rattle.std.specs.Prelude.{◌≡◌, ◌≤◌};
+ghost use Rattle.records.specs.Limits.{header_length};
 ghost use Rattle.records.specs.Records.{every};
 ghost use Rattle.records.specs.File.{facts_from, declarators_from, statements_from, initializers};
 ghost use Rattle.records.specs.Script.{good_declarator, good_declarator_of, good_statement, declarator_sum};
 ghost use Rattle.records.specs.Place.{expressions};
 
-use records::facts::facts_of;
-use records::flags::is_unresolved;
 use records::kinds::{EXPRESSION_STATEMENT, OTHER_STATEMENT};
 use records::layout::{
     DeclaratorRecord, NameFacts, NameId, StatementRecord, declarator_at, statement_at,
 };
 use records::limits::{DECLARATOR_LENGTH, NO_NUMBER, STATEMENT_LENGTH};
-use records::number::{one, size};
+use records::name_table::Names;
+use records::part::Part;
 
 // A declarator, with the facts of its name, among `names` names.
 pub fn declarator_is_good(d: DeclaratorRecord, names: u16, facts: NameFacts) -> bool
     ensures result { result ≡ good_declarator_of names facts.flags d }
 {
-    let unresolved = is_unresolved(facts);
+    let unresolved = facts.is_unresolved();
     (d.present <= 1) & ((d.name == NO_NUMBER) | (d.name < names) & !unresolved)
 }
 
@@ -30,28 +29,30 @@ pub fn statement_is_good(s: StatementRecord) -> bool
     (s.kind <= OTHER_STATEMENT) & (s.zero == 0) & (declaration | (s.declarators == 0))
 }
 
+// `good` stands beside the sums, here and below: `initializers`, `declarators` and `expressions` promise them of bad records too.
 #[derive(Clone, Copy)]
 pub struct DeclaratorTotals {
     pub good: bool,
     pub initializers: usize,
 }
 
-// Whether all of the declarators from `from` on are good, and how many have an initializer.
-pub fn declarator_totals(file: &[u8], from: usize, count: usize, names: u16) -> DeclaratorTotals
-    requires declarators { from + declarator_length * count ≤ length file.now }
-    requires names { header_length + name_length * names ≤ length file.now }
-    ensures good { let bs = file.now in
-        result.good ≡ every (good_declarator (facts_from bs header_length names)) (declarators_from bs from count) }
-    ensures initializers { result.initializers ≡ initializers (declarators_from file.now from count) }
+// Whether all of the declarators are good, and how many have an initializer.
+pub fn declarator_totals(
+    names: &Names<'_>,
+    declarators: &Part<'_, DECLARATOR_LENGTH>,
+) -> DeclaratorTotals
+    ensures good { let facts = facts_from names.now.file.now header_length names.now.count in let p = declarators.now in
+        result.good ≡ every (good_declarator facts) (declarators_from p.file.now p.from p.count) }
+    ensures initializers { let p = declarators.now in
+        result.initializers ≡ initializers (declarators_from p.file.now p.from p.count) }
 {
+    let Part { file, from, count } = *declarators;
     let mut good = true;
     let mut with_tree = 0;
-    let mut i = 0;
-    while i < count {
+    for i in 0..count {
         let d = declarator_at(file, from + DECLARATOR_LENGTH * i);
-        good = good & declarator_is_good(d, names, facts_of(file, names, NameId(d.name)));
-        with_tree += one(d.present == 1);
-        i += 1;
+        good = good & declarator_is_good(d, names.count, names.facts_of(NameId(d.name)));
+        with_tree += usize::from(d.present == 1);
     }
     DeclaratorTotals {
         good,
@@ -66,24 +67,24 @@ pub struct StatementTotals {
     pub expressions: usize,
 }
 
-// Whether all of the statements from `from` on are good, the sum of their declarators, and how many are expressions.
-pub fn statement_totals(file: &[u8], from: usize, count: usize) -> StatementTotals
-    requires statements { from + statement_length * count ≤ length file.now }
-    requires count { count ≤ 65535 }
-    ensures good { result.good ≡ every good_statement (statements_from file.now from count) }
-    ensures declarators { result.declarators ≡ declarator_sum (statements_from file.now from count) }
-    ensures expressions { result.expressions ≡ expressions (statements_from file.now from count) }
+// Whether all of the statements are good, the sum of their declarators, and how many are expressions.
+pub fn statement_totals(statements: &Part<'_, STATEMENT_LENGTH>) -> StatementTotals
+    requires count { statements.now.count ≤ 65535 }
+    ensures good { let p = statements.now in result.good ≡ every good_statement (statements_from p.file.now p.from p.count) }
+    ensures declarators { let p = statements.now in
+        result.declarators ≡ declarator_sum (statements_from p.file.now p.from p.count) }
+    ensures expressions { let p = statements.now in
+        result.expressions ≡ expressions (statements_from p.file.now p.from p.count) }
 {
+    let Part { file, from, count } = *statements;
     let mut good = true;
     let mut sum = 0;
     let mut with_tree = 0;
-    let mut i = 0;
-    while i < count {
+    for i in 0..count {
         let s = statement_at(file, from + STATEMENT_LENGTH * i);
         good = good & statement_is_good(s);
-        sum += size(s.declarators);
-        with_tree += one(s.kind == EXPRESSION_STATEMENT);
-        i += 1;
+        sum += usize::from(s.declarators);
+        with_tree += usize::from(s.kind == EXPRESSION_STATEMENT);
     }
     StatementTotals {
         good,

@@ -1,19 +1,17 @@
 // What isn't as the list says.
+use crate::entry::Entry;
 use std::io;
 
-// Says so where a number of this entry isn't the list's; `what` is its name between blanks.
+// Says so where a number of this entry, called `what`, isn't the list's.
 pub fn compare(
     rt: &impl Print,
-    entry: usize,
-    what: &[u8],
+    e: Entry<'_>,
+    what: &str,
     said: usize,
     is: usize,
 ) -> io::Result<()> {
     if said == is {
         return Ok(());
     }
-    program_lines::put(rt, b"entry ", entry)?;
-    program_lines::put(rt, what, is)?;
-    program_lines::put(rt, b", the list says ", said)?;
-    program_lines::end(rt, b"")
+    println!(rt; "entry {} {what} {is}, the list says {said}", e.index)
 }

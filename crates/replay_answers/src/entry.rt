@@ -1,161 +1,146 @@
 // The entries of a list of answers.
-ghost use Rattle.std.specs.Prelude.{◌+◌, ◌≤◌, length, IfOk, ◌≢◌, IfErr};
+ghost use Rattle.std.specs.Prelude.{◌≡◌, ◌≤◌, replicate, length, ◌≢◌, IfOk, IfSome, IfErr};
 ghost use Rattle.std.specs.IoError.{error_kind};
 ghost use Rattle.std.specs.declared.io.ErrorKind.TheVariants.{UnexpectedEof};
 
-use crate::segment::{fill, read_whole};
+use crate::segment::{fill, number_at, read_whole};
 use records::copy::copy;
-use records::number::u32_at;
 use std::io;
 use std::io::Read;
 
-pub(crate) fn number_at(bytes: &[u8], at: usize) -> usize
-    requires room { at + 4 ≤ length bytes.now }
-{
-    u32_at(bytes, at) as usize
-}
-
 // The longest file, result and room that a list may have.
-const LONGEST: usize = 65536;
+pub const LONGEST: usize = 65536;
 
 // The length of a result that is the file itself, or of a repeat's that is the fold's, and so isn't in the list.
 const SAME: usize = 4294967295;
 
-// An entry without its bytes: the length of the output that is offered; what the fold, the repeat and measuring are to return; the
-// lengths of the file, of the fold's result and of the repeat's. `there` is false behind the last entry, and if the bytes aren't an
-// entry.
+// The length of an entry's head.
+const HEAD_LENGTH: usize = 40;
+
+// No list has more entries; what is behind them isn't read.
+pub const MOST_ENTRIES: usize = 1_000_000;
+
+// What an entry's file, the fold's result and the repeat's are read to.
+#[derive(Drop)]
+pub struct Buffers {
+    pub file: [u8; LONGEST],
+    pub result: [u8; LONGEST],
+    pub steady: [u8; LONGEST],
+}
+
+impl Buffers {
+    pub fn new() -> Self
+        ensures file { result.file ≡ replicate 65536 0 }
+        ensures result_bytes { result.result ≡ replicate 65536 0 }
+        ensures steady { result.steady ≡ replicate 65536 0 }
+    {
+        Self {
+            file: [0; LONGEST],
+            result: [0; LONGEST],
+            steady: [0; LONGEST],
+        }
+    }
+}
+
+// An entry: its place in the list; the file, the fold's result and the repeat's; the length of the output that is offered; what
+// the fold, the repeat and measuring are to return.
 #[derive(Clone, Copy)]
-pub struct Entry {
-    pub there: bool,
+pub struct Entry<'a> {
+    pub index: usize,
+    pub file: &'a [u8],
+    pub result: &'a [u8],
+    pub steady: &'a [u8],
     pub room: usize,
     pub number: usize,
     pub folds: usize,
     pub looks: usize,
-    pub length: usize,
-    pub result: usize,
     pub steady_folds: usize,
     pub runs: usize,
-    pub steady: usize,
     pub measured: usize,
+    pub ghost file_length: { length file.now ≤ 65536 },
+    pub ghost result_length: { length result.now ≤ 65536 },
+    pub ghost steady_length: { length steady.now ≤ 65536 },
+    pub ghost room_length: { room ≤ 65536 },
 }
 
-// The length of an entry's head.
-pub const HEAD_LENGTH: usize = 40;
-
-// The length of a result that a list may have.
-fn is_length(count: usize) -> bool {
-    (count <= LONGEST) | (count == SAME)
-}
-
-// The length that a number stands for: `before`, the length of the bytes that the result is the same as, or its own; never more
-// than the longest.
-fn length_of(count: usize, before: usize) -> usize
-    requires before { before ≤ 65536 }
+// The room that a number offers, 0 if a list may not have so much.
+fn room_of(number: usize) -> usize
     ensures result { result ≤ 65536 }
 {
-    if count == SAME {
-        return before;
-    }
-    if count <= LONGEST { count } else { 0 }
+    if number <= LONGEST { number } else { 0 }
 }
 
-// The lengths at the head of an entry: of the output that is offered, of the file, of the fold's result and of the repeat's; and
-// whether a list may have those of the bytes that follow.
-#[derive(Clone, Copy)]
-struct Lengths {
-    there: bool,
-    room: usize,
-    file: usize,
-    result: usize,
-    steady: usize,
-}
-
-fn lengths_of(head: &[u8; 40]) -> Lengths
-    ensures room { result.room ≤ 65536 }
-    ensures file { result.file ≤ 65536 }
-    ensures result_length { result.result ≤ 65536 }
-    ensures steady_length { result.steady ≤ 65536 }
-{
-    let file = length_of(number_at(head, 16), 0);
-    let result = length_of(number_at(head, 20), file);
-    let lengths = (number_at(head, 16) <= LONGEST) & is_length(number_at(head, 20));
-    Lengths {
-        there: lengths & is_length(number_at(head, 32)),
-        room: length_of(number_at(head, 0), 0),
-        file,
-        result,
-        steady: length_of(number_at(head, 32), result),
-    }
-}
-
-// The numbers at the head of an entry.
-fn entry_of(head: &[u8; 40]) -> Entry
-    ensures room { result.room ≤ 65536 }
-    ensures length { result.length ≤ 65536 }
-    ensures result_length { result.result ≤ 65536 }
-    ensures steady_length { result.steady ≤ 65536 }
-{
-    let lengths = lengths_of(head);
-    Entry {
-        there: lengths.there,
-        room: lengths.room,
-        number: number_at(head, 4),
-        folds: number_at(head, 8),
-        looks: number_at(head, 12),
-        length: lengths.file,
-        result: lengths.result,
-        steady_folds: number_at(head, 24),
-        runs: number_at(head, 28),
-        steady: lengths.steady,
-        measured: number_at(head, 36),
-    }
-}
-
-// So many bytes to the start of `to`: those at the start of `from` where the number at this place of the head says that they are
-// the same, else the next segments of the list; false if the list doesn't have them.
-fn fill_or_copy(
+// So many bytes from the list, to the start of `to`; their number, if a list may have so many and this one does.
+fn read_bytes(
     reader: &mut impl Read,
-    head: &[u8; 40],
-    place: usize,
-    from: &[u8],
-    to: &mut [u8],
     count: usize,
-) -> io::Result<bool>
-    requires place { place + 4 ≤ 40 }
-    requires from { count ≤ length from.now }
-    requires to { count ≤ length to.old }
+    to: &mut [u8; LONGEST],
+) -> io::Result<Option<usize>>
+    ensures length { IfOk result (λ o. IfSome o (λ n. n ≤ 65536)) }
     ensures err { IfErr result (λ e. error_kind e ≢ UnexpectedEof) }
 {
-    if number_at(head, place) == SAME {
-        copy(&from[..count], to);
-        return Ok(true);
+    if count > LONGEST {
+        return Ok(None);
     }
-    fill(reader, to, count)
+    let filled = fill(reader, to, count)?;
+    Ok(filled.then_some(count))
 }
 
-// Reads the next entry: its file, the fold's result and the repeat's, each to the start of its buffer. An error is the reader's, and no
-// end of the list; head and buffers may then have some of what was read.
-pub fn read_entry(
+// The same of a result, which may be the bytes before it.
+fn read_result(
     reader: &mut impl Read,
-    head: &mut [u8; 40],
-    file: &mut [u8],
-    res: &mut [u8],
-    steady: &mut [u8],
-) -> io::Result<Entry>
-    requires file { 65536 ≤ length file.old }
-    requires res { 65536 ≤ length res.old }
-    requires steady { 65536 ≤ length steady.old }
-    ensures room { IfOk result (λ e. e.room ≤ 65536) }
-    ensures length { IfOk result (λ e. e.length ≤ 65536) }
-    ensures result_length { IfOk result (λ e. e.result ≤ 65536) }
-    ensures steady_length { IfOk result (λ e. e.steady ≤ 65536) }
+    count: usize,
+    before: &[u8],
+    to: &mut [u8; LONGEST],
+) -> io::Result<Option<usize>>
+    requires before { length before.now ≤ 65536 }
+    ensures length { IfOk result (λ o. IfSome o (λ n. n ≤ 65536)) }
     ensures err { IfErr result (λ e. error_kind e ≢ UnexpectedEof) }
 {
-    let whole = read_whole(reader, head)?;
-    let mut e = entry_of(head);
-    let filled = fill(reader, file, e.length)?;
-    let results = fill_or_copy(reader, head, 20, file, res, e.result)?;
-    let last = fill_or_copy(reader, head, 32, res, steady, e.steady)?;
-    e.there = e.there & whole & filled & results & last;
-    Ok(e)
+    if count == SAME {
+        copy(before, to);
+        return Ok(Some(before.len()));
+    }
+    read_bytes(reader, count, to)
+}
+
+// Reads the next entry, with this place in the list; none behind the last one, and if the bytes aren't an entry. An error is the
+// reader's, and no end of the list; the buffers may then have some of what was read.
+pub fn read_entry<'a>(
+    reader: &mut impl Read,
+    index: usize,
+    buffers: &'a mut Buffers,
+) -> io::Result<Option<Entry<'a>>>
+    ensures err { IfErr result (λ e. error_kind e ≢ UnexpectedEof) }
+{
+    let mut head = [0u8; HEAD_LENGTH];
+    if !read_whole(reader, &mut head)? {
+        return Ok(None);
+    }
+    let Some(file) = read_bytes(reader, number_at(&head, 16), &mut buffers.file)? else {
+        return Ok(None);
+    };
+    let before = &buffers.file[..file];
+    let Some(result) = read_result(reader, number_at(&head, 20), before, &mut buffers.result)?
+    else {
+        return Ok(None);
+    };
+    let before = &buffers.result[..result];
+    let Some(steady) = read_result(reader, number_at(&head, 32), before, &mut buffers.steady)?
+    else {
+        return Ok(None);
+    };
+    Ok(Some(Entry {
+        index,
+        file: &buffers.file[..file],
+        result: &buffers.result[..result],
+        steady: &buffers.steady[..steady],
+        room: room_of(number_at(&head, 0)),
+        number: number_at(&head, 4),
+        folds: number_at(&head, 8),
+        looks: number_at(&head, 12),
+        steady_folds: number_at(&head, 24),
+        runs: number_at(&head, 28),
+        measured: number_at(&head, 36),
+    }))
 }

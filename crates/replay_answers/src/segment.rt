@@ -3,9 +3,15 @@ ghost use Rattle.std.specs.Prelude.{◌+◌, ◌≤◌, ◌≢◌, length, IfErr
 ghost use Rattle.std.specs.IoError.{error_kind};
 ghost use Rattle.std.specs.declared.io.ErrorKind.TheVariants.{UnexpectedEof};
 
-use crate::entry::number_at;
+use records::number::u32_at;
 use std::io;
 use std::io::{ErrorKind, Read};
+
+pub fn number_at(bytes: &[u8], at: usize) -> usize
+    requires room { at + 4 ≤ length bytes.now }
+{
+    u32_at(bytes, at) as usize
+}
 
 // Where `times` times so many bytes from `at` on end, as far as they end by `most`.
 fn segment_end(at: usize, bytes: usize, times: usize, most: usize) -> usize
@@ -13,13 +19,11 @@ fn segment_end(at: usize, bytes: usize, times: usize, most: usize) -> usize
     ensures within { (at + bytes ≤ result) × (result ≤ most) }
 {
     let mut end = at + bytes;
-    let mut k = 1;
-    while k < times {
+    for _ in 1..times {
         if most - end < bytes {
-            return end;
+            break;
         }
         end += bytes;
-        k += 1;
     }
     end
 }
@@ -29,10 +33,8 @@ fn repeat(buf: &mut [u8], at: usize, period: usize, end: usize)
     requires period { period ≤ at }
     requires end { end ≤ length buf.old }
 {
-    let mut i = at;
-    while i < end {
+    for i in at..end {
         buf[i] = buf[i - period];
-        i += 1;
     }
 }
 
@@ -56,16 +58,14 @@ pub fn fill(reader: &mut impl Read, buf: &mut [u8], count: usize) -> io::Result<
 {
     let mut head = [0u8; 8];
     let mut at = 0;
+    // No `for`: the list says how long each segment is.
     while at < count {
         if !read_whole(reader, &mut head)? {
             return Ok(false);
         }
         let times = number_at(&head, 0);
         let bytes = number_at(&head, 4);
-        if bytes == 0 {
-            return Ok(false);
-        }
-        if count - at < bytes {
+        if bytes == 0 || count - at < bytes {
             return Ok(false);
         }
         let next = at + bytes;

@@ -1,9 +1,10 @@
 // What a fold, a repeat and measuring return, as the numbers of a list.
-use statements_fold::{FoldAnswer, fold};
-use statements_measure::{MeasureAnswer, measure};
-use statements_steady::{SteadyAnswer, fold_until_steady};
+use records_refusal::outcome::Refusal;
+use statements_fold::Folded;
+use statements_measure::Measured;
+use statements_steady::Steady;
 
-#[derive(Clone, Copy)]
+#[derive(Clone, Copy, Default)]
 pub struct Returned {
     pub number: usize,
     pub length: usize,
@@ -11,69 +12,63 @@ pub struct Returned {
     pub runs: usize,
 }
 
-fn refused(number: u8) -> Returned {
-    Returned {
-        number: number as usize,
-        length: 0,
-        folds: 0,
-        runs: 0,
-    }
-}
-
 // A fold is one run.
-pub fn returned_for(file: &[u8], output: &mut [u8]) -> Returned {
-    let answer = fold(file, output);
-    match answer {
-        FoldAnswer::Refused(number) => refused(number),
-        FoldAnswer::Written(length, folds) => Returned {
-            number: 0,
-            length,
-            folds,
-            runs: 1,
-        },
+impl From<Result<Folded, Refusal>> for Returned {
+    fn from(answer: Result<Folded, Refusal>) -> Self {
+        match answer {
+            Ok(folded) => Self {
+                number: 0,
+                length: folded.length,
+                folds: folded.folds,
+                runs: 1,
+            },
+            Err(row) => Self::from(row),
+        }
     }
 }
 
-pub fn steady_for(file: &[u8], output: &mut [u8]) -> Returned {
-    let answer = fold_until_steady(file, output);
-    match answer {
-        SteadyAnswer::Refused(number) => refused(number),
-        SteadyAnswer::Written(length, folds, runs) => Returned {
-            number: 0,
-            length,
-            folds,
-            runs,
-        },
+impl From<Result<Steady, Refusal>> for Returned {
+    fn from(answer: Result<Steady, Refusal>) -> Self {
+        match answer {
+            Ok(steady) => Self {
+                number: 0,
+                length: steady.length,
+                folds: steady.folds,
+                runs: steady.runs,
+            },
+            Err(row) => Self::from(row),
+        }
     }
 }
 
-#[derive(Clone, Copy)]
+impl From<Refusal> for Returned {
+    fn from(row: Refusal) -> Self {
+        Self {
+            number: usize::from(u8::from(row)),
+            ..Self::default()
+        }
+    }
+}
+
+#[derive(Clone, Copy, Default)]
 pub struct MeasuredNumbers {
     pub number: usize,
     pub length: usize,
     pub looks: usize,
 }
 
-pub fn measured_for(file: &[u8]) -> MeasuredNumbers {
-    let answer = measure(file);
-    match answer {
-        MeasureAnswer::Refused(number) => MeasuredNumbers {
-            number: number as usize,
-            length: 0,
-            looks: 0,
-        },
-        MeasureAnswer::Measured(length, looks) => MeasuredNumbers {
-            number: 0,
-            length,
-            looks,
-        },
+impl From<Result<Measured, Refusal>> for MeasuredNumbers {
+    fn from(answer: Result<Measured, Refusal>) -> Self {
+        match answer {
+            Ok(measured) => Self {
+                number: 0,
+                length: measured.length,
+                looks: measured.looks,
+            },
+            Err(row) => Self {
+                number: usize::from(u8::from(row)),
+                ..Self::default()
+            },
+        }
     }
-}
-
-// What all three returned for a file.
-#[derive(Clone, Copy)]
-pub struct Replayed {
-    pub fold: Returned,
-    pub steady: Returned,
-    pub measure: MeasuredNumbers,
 }

@@ -1,114 +1,76 @@
 // What is counted over all entries.
-use crate::returned::{MeasuredNumbers, Replayed, Returned};
-use records::number::one;
-use std::io;
+use crate::returned::{MeasuredNumbers, Returned};
+use std::fmt;
 
-#[derive(Clone, Copy)]
-struct ReplayTotals {
+// The sum, if it is a number that fits.
+fn sum(a: usize, b: usize) -> usize {
+    a.checked_add(b).unwrap_or(a)
+}
+
+#[derive(Clone, Copy, Default)]
+pub struct ReplayTotals {
     accepted: usize,
     folds: usize,
     runs: usize,
     bytes: usize,
 }
 
-// The sum, if it is a number that fits.
-fn sum(a: usize, b: usize) -> usize {
-    if b <= 18446744073709551615 - a {
-        a + b
-    } else {
-        a
-    }
-}
-
 impl ReplayTotals {
-    pub fn new() -> Self {
-        Self {
-            accepted: 0,
-            folds: 0,
-            runs: 0,
-            bytes: 0,
-        }
-    }
-
-    pub fn with(self, r: Returned) -> Self {
-        Self {
-            accepted: sum(self.accepted, one(r.number == 0)),
-            folds: sum(self.folds, r.folds),
-            runs: sum(self.runs, r.runs),
-            bytes: sum(self.bytes, r.length),
-        }
-    }
-
-    // A line that begins with these words.
-    pub fn print(self, rt: &impl Print, what: &[u8]) -> io::Result<()> {
-        program_lines::put(rt, what, self.accepted)?;
-        program_lines::put(rt, b" folds ", self.folds)?;
-        program_lines::put(rt, b" runs ", self.runs)?;
-        program_lines::put(rt, b" bytes ", self.bytes)?;
-        program_lines::end(rt, b"")
+    pub fn add(&mut self, r: Returned) {
+        self.accepted = sum(self.accepted, usize::from(r.number == 0));
+        self.folds = sum(self.folds, r.folds);
+        self.runs = sum(self.runs, r.runs);
+        self.bytes = sum(self.bytes, r.length);
     }
 }
 
-#[derive(Clone, Copy)]
-struct MeasureTotals {
+impl fmt::Display for ReplayTotals {
+    fn fmt<W: fmt::Write>(&self, f: &mut fmt::Formatter<W>) -> fmt::Result {
+        write!(
+            f,
+            "accepted {} folds {} runs {} bytes {}",
+            self.accepted, self.folds, self.runs, self.bytes
+        )
+    }
+}
+
+#[derive(Clone, Copy, Default)]
+pub struct MeasureTotals {
     measured: usize,
     bytes: usize,
     looks: usize,
 }
 
 impl MeasureTotals {
-    pub fn new() -> Self {
-        Self {
-            measured: 0,
-            bytes: 0,
-            looks: 0,
-        }
-    }
-
-    pub fn with(self, r: MeasuredNumbers) -> Self {
-        Self {
-            measured: sum(self.measured, one(r.number == 0)),
-            bytes: sum(self.bytes, r.length),
-            looks: sum(self.looks, r.looks),
-        }
-    }
-
-    pub fn print(self, rt: &impl Print) -> io::Result<()> {
-        program_lines::put(rt, b"measured ", self.measured)?;
-        program_lines::put(rt, b" bytes ", self.bytes)?;
-        program_lines::put(rt, b" looks ", self.looks)?;
-        program_lines::end(rt, b"")
+    pub fn add(&mut self, r: MeasuredNumbers) {
+        self.measured = sum(self.measured, usize::from(r.number == 0));
+        self.bytes = sum(self.bytes, r.length);
+        self.looks = sum(self.looks, r.looks);
     }
 }
 
-#[derive(Clone, Copy)]
+impl fmt::Display for MeasureTotals {
+    fn fmt<W: fmt::Write>(&self, f: &mut fmt::Formatter<W>) -> fmt::Result {
+        write!(
+            f,
+            "measured {} bytes {} looks {}",
+            self.measured, self.bytes, self.looks
+        )
+    }
+}
+
+#[derive(Clone, Copy, Default)]
 pub struct AllTotals {
-    folds: ReplayTotals,
-    repeats: ReplayTotals,
-    measures: MeasureTotals,
+    pub folds: ReplayTotals,
+    pub repeats: ReplayTotals,
+    pub measures: MeasureTotals,
 }
 
-impl AllTotals {
-    pub fn new() -> Self {
-        Self {
-            folds: ReplayTotals::new(),
-            repeats: ReplayTotals::new(),
-            measures: MeasureTotals::new(),
-        }
-    }
-
-    pub fn with(self, r: Replayed) -> Self {
-        Self {
-            folds: self.folds.with(r.fold),
-            repeats: self.repeats.with(r.steady),
-            measures: self.measures.with(r.measure),
-        }
-    }
-
-    // A line for each call.
-    pub fn print(self, rt: &impl Print) -> io::Result<()> {
-        self.folds.print(rt, b"fold: accepted ")?;
-        self.repeats.print(rt, b"until steady: accepted ")?;
-        self.measures.print(rt)
+// A line for each call.
+impl fmt::Display for AllTotals {
+    fn fmt<W: fmt::Write>(&self, f: &mut fmt::Formatter<W>) -> fmt::Result {
+        writeln!(f, "fold: {}", self.folds)?;
+        writeln!(f, "until steady: {}", self.repeats)?;
+        write!(f, "{}", self.measures)
     }
 }

@@ -156,7 +156,7 @@ module _ (ctx : Context) (file : List ℕ) (h : Header) (nodes records starts st
         by : (st : Statement) → Expressed st → Taking file h (tables nodes records starts statements) p ks (st ∷ ss) rest before → CanTakeNext file h (tables nodes records starts statements) p
         by _ (expressed t) a = (ks, t, all_trees ss, declarator_records (all_declarators ss), suc (length ss), rest, before, expression-state t ss a)
 
-    module _ (nodes' statements₁ folded folded' : List ℕ) (l : Progress) (w : SearchedFromStatements ctx file h (tables nodes records starts statements) (tables nodes' records starts statements₁) folded folded' p l) where
+    module _ (nodes₁ records₁ starts₁ statements₁ folded folded' : List ℕ) (l : Progress) (w : SearchedFromStatements ctx file h (tables nodes records starts statements) (tables nodes₁ records₁ starts₁ statements₁) folded folded' p l) where
       pub expression-room : CanFold file h (tables nodes records starts statements) s p → l.statements_kept + 1 ≤ h.statements
       expression-room (ks, st, ss, rest, before, a, e) = by st (is-expressed s st e k) a
         where
@@ -166,13 +166,13 @@ module _ (ctx : Context) (file : List ℕ) (h : Header) (nodes records starts st
               omega (arith, s'.room.stated)
 
       pub expression-folds : (statements' : List ℕ) (r : Progress) → StatementPushed statements₁ statements' l.statements_kept s → r ≡ statement_past l
-          → Folds ctx file h (tables nodes records starts statements) (tables nodes' records starts statements') folded folded' s p r
+          → Folds ctx file h (tables nodes records starts statements) (tables nodes₁ records₁ starts₁ statements') folded folded' s p r
       unfolding statement_record statement_number declarators_in
       expression-folds statements' r pushed er ks st ss rest before a e number = by st (is-expressed s st e k) a e
         where
           by : (st : Statement) → Expressed st → Taking file h (tables nodes records starts statements) p ks (st ∷ ss) rest before → s ≡ statement_record st
               → (rest' : List ℕ) × (before' : List NodeRecord)
-              × Taking file h (tables nodes' records starts statements') r (fold_statement ctx number ks st).result ss rest' before'
+              × Taking file h (tables nodes₁ records₁ starts₁ statements') r (fold_statement ctx number ks st).result ss rest' before'
               × Adds folded folded' p r (fold_statement ctx number ks st)
           by _ (expressed t) a e =
               let (rest', before', s', f) = w ks t (all_trees ss) (declarator_records (all_declarators ss)) (suc (length ss)) rest before (expression-state t ss a) in

@@ -104,15 +104,15 @@ module _ (ctx : Context) (file : List ℕ) (h : Header) (x : DeclaratorRecord) (
         let (t, e, s') = given-tree d ts s x ex g in
         (statements, ks, done, t, ts, record_for d ∷ coming, left, rest, before, s')
 
-    module _ (searched : Bool) (nodes' folded folded' : List ℕ) (q : Progress) (l : TakenLaterTree ctx searched file h (declarator_tables nodes records starts) (declarator_tables nodes' records starts) folded folded' low p q) where
+    module _ (searched : Bool) (nodes₁ records₁ starts₁ folded folded' : List ℕ) (q : Progress) (l : TakenLaterTree ctx searched file h (declarator_tables nodes records starts) (declarator_tables nodes₁ records₁ starts₁) folded folded' low p q) where
       pub can_push_later : CanTakeLater file h (declarator_tables nodes records starts) low p → (q.declarators_kept + 1 ≤ h.declarators) × (q.declarators_read < 65536)
       can_push_later (statements, ks, done, d, ts, coming, left, rest, before, s) =
           let (t, e, s') = given-tree d ts s x ex g in
           let (rest', before', s'', f) = l statements ks done t ts (record_for d ∷ coming) left rest before s' [] Var in
           push_room s''
 
-      pub taken-given : (records' starts' : List ℕ) (r : Progress) → DeclaratorPushed records records' starts starts' q.declarators_kept q.tree.0 x → r ≡ declarator_past q
-          → TakenLater ctx searched file h (declarator_tables nodes records starts) (declarator_tables nodes' records' starts') folded folded' low p r
+      pub taken-given : (records' starts' : List ℕ) (r : Progress) → DeclaratorPushed records₁ records' starts₁ starts' q.declarators_kept q.tree.0 x → r ≡ declarator_past q
+          → TakenLater ctx searched file h (declarator_tables nodes records starts) (declarator_tables nodes₁ records' starts') folded folded' low p r
       taken-given records' starts' r w er statements ks done d ts coming left rest before s above kind =
           let (t, e, s') = given-tree d ts s x ex g in
           let (rest', before', s'', f) = l statements ks done t ts (record_for d ∷ coming) left rest before s' above kind in
@@ -136,15 +136,15 @@ module _ (ctx : Context) (file : List ℕ) (h : Header) (x : DeclaratorRecord) (
         let (t, e, s') = given-tree d ts s x ex g in
         (ks, t, ts, record_for d ∷ coming, left, rest, before, s')
 
-    module _ (nodes' statements' folded folded' : List ℕ) (q : Progress) (l : SearchedFromStatements ctx file h (tables nodes records starts statements) (tables nodes' records starts statements') folded folded' p q) where
+    module _ (nodes₁ records₁ starts₁ statements₁ folded folded' : List ℕ) (q : Progress) (l : SearchedFromStatements ctx file h (tables nodes records starts statements) (tables nodes₁ records₁ starts₁ statements₁) folded folded' p q) where
       pub can_push_first : CanTakeFirst file h (tables nodes records starts statements) p → (q.declarators_kept + 1 ≤ h.declarators) × (q.declarators_read < 65536)
       can_push_first (ks, d, ts, coming, left, rest, before, s) =
           let (t, e, s') = given-tree d ts s x ex g in
           let (rest', before', s'', f) = l ks t ts (record_for d ∷ coming) left rest before s' in
           push_room s''
 
-      pub first_taken : (records' starts' : List ℕ) (r : Progress) → DeclaratorPushed records records' starts starts' q.declarators_kept q.tree.0 x → r ≡ declarator_past q
-          → TakenFirst ctx file h (tables nodes records starts statements) (tables nodes' records' starts' statements') folded folded' p r
+      pub first_taken : (records' starts' : List ℕ) (r : Progress) → DeclaratorPushed records₁ records' starts₁ starts' q.declarators_kept q.tree.0 x → r ≡ declarator_past q
+          → TakenFirst ctx file h (tables nodes records starts statements) (tables nodes₁ records' starts' statements₁) folded folded' p r
       first_taken records' starts' r w er ks d ts coming left rest before s =
           let (t, e, s') = given-tree d ts s x ex g in
           let (rest', before', s'', f) = l ks t ts (record_for d ∷ coming) left rest before s' in
@@ -181,9 +181,9 @@ module _ (ctx : Context) (searched : Bool) (file : List ℕ) (h : Header) (low :
       → (done' : List Declarator) × (ds' : List Declarator) × (rest' : List ℕ) × (before' : List NodeRecord)
       × Going nodes records starts statements folded₀ folded p q ks done ds ts coming left above kind number done' ds' rest' before'
 
-  pub going-begins : {nodes records starts folded : List ℕ} (number : ℕ) (p : Progress) → SomeGoing nodes records starts folded number p nodes records starts folded number p
-  going-begins number p statements ks done ds ts coming left rest before s e above kind =
-      (done, ds, rest, before, record { state = s; many = e; result-is = refl; adds = λ a. a })
+  pub going-begins : {nodes records starts folded : List ℕ} (number₀ number : ℕ) → number ≡ number₀ → (p : Progress) → SomeGoing nodes records starts folded number₀ p nodes records starts folded number p
+  going-begins number₀ number en p statements ks done ds ts coming left rest before s e above kind =
+      (done, ds, rest, before, record { state = s; many = omega (arith, e, en); result-is = refl; adds = λ a. a })
 
   module _ {nodes₀ records₀ starts₀ folded₀ : List ℕ} {number₀ : ℕ} {p : Progress} {nodes records starts folded : List ℕ} {number : ℕ} {q : Progress}
       (i : SomeGoing nodes₀ records₀ starts₀ folded₀ number₀ p nodes records starts folded number q) where
@@ -200,14 +200,14 @@ module _ (ctx : Context) (searched : Bool) (file : List ℕ) (h : Header) (low :
         let (done', ds', rest', before', g) = i statements ks done ds ts coming left rest before s e [] Var in
         next-state ds' l g
 
-    module _ {nodes' records' starts' folded' : List ℕ} {r : Progress} (w : TakenLater ctx searched file h (declarator_tables nodes records starts) (declarator_tables nodes' records' starts') folded folded' low q r) where
+    module _ {number' : ℕ} (en : number ≡ number' + 1) {nodes' records' starts' folded' : List ℕ} {r : Progress} (w : TakenLater ctx searched file h (declarator_tables nodes records starts) (declarator_tables nodes' records' starts') folded folded' low q r) where
       turn : {statements : List ℕ} {ks : List Kept} {done ds : List Declarator} {ts : Trees} {coming : List DeclaratorRecord} {left : ℕ} {above : List Statement} {kind : DeclarationKind} {done' : List Declarator} (ds' : List Declarator) {rest' : List ℕ} {before' : List NodeRecord}
-          → 0 < number → Going nodes records starts statements folded₀ folded p q ks done ds ts coming left above kind number done' ds' rest' before'
+          → Going nodes records starts statements folded₀ folded p q ks done ds ts coming left above kind number done' ds' rest' before'
           → (done'' : List Declarator) × (ds'' : List Declarator) × (rest'' : List ℕ) × (before'' : List NodeRecord)
-          × Going nodes' records' starts' statements folded₀ folded' p r ks done ds ts coming left above kind (number - 1) done'' ds'' rest'' before''
+          × Going nodes' records' starts' statements folded₀ folded' p r ks done ds ts coming left above kind number' done'' ds'' rest'' before''
       unfolding initializer_trees declarator_records later_declarators ◌>>=◌
-      turn [] l g = absurd (omega (arith, g.many))
-      turn {statements} {ks = ks} {ts = ts} {coming} {left} {above} {kind} {done'} (d ∷ ds') {rest'} {before'} l g =
+      turn [] g = absurd (omega (arith, g.many))
+      turn {statements} {ks = ks} {ts = ts} {coming} {left} {above} {kind} {done'} (d ∷ ds') {rest'} {before'} g =
           let v = later_declarator ctx above kind searched done' d in
           let (rest'', before'', s, f) = w statements ks done' d (initializer_trees ds' ts) (declarator_records ds' ++ coming) left rest' before' g.state above kind in (
             v.result,
@@ -222,10 +222,10 @@ module _ (ctx : Context) (searched : Bool) (file : List ℕ) (h : Header) (low :
             },
           )
 
-      pub going_on : 0 < number → SomeGoing nodes₀ records₀ starts₀ folded₀ number₀ p nodes' records' starts' folded' (number - 1) r
-      going_on l statements ks done ds ts coming left rest before s e above kind =
+      pub going_on : SomeGoing nodes₀ records₀ starts₀ folded₀ number₀ p nodes' records' starts' folded' number' r
+      going_on statements ks done ds ts coming left rest before s e above kind =
           let (done', ds', rest', before', g) = i statements ks done ds ts coming left rest before s e above kind in
-          turn ds' l g
+          turn ds' g
 
     finished : {statements : List ℕ} {ks : List Kept} {done ds : List Declarator} {ts : Trees} {coming : List DeclaratorRecord} {left : ℕ} {above : List Statement} {kind : DeclarationKind} {done' : List Declarator} (ds' : List Declarator) {rest' : List ℕ} {before' : List NodeRecord}
         → number ≤ 0 → Going nodes records starts statements folded₀ folded p q ks done ds ts coming left above kind number done' ds' rest' before'

@@ -1,4 +1,5 @@
 -- Laws of the tables while the statements of a file are taken.
+pub mod Slices
 pub mod Adding
 pub mod Numbers
 pub mod Pushes

@@ -64,48 +64,53 @@ module _ (file : List ℕ) (h : Header) where
     },
   )
 
+  -- the record of a statement in the part that begins at byte `from`
+  stands : (i from : ℕ) → from ≡ statements_start h → (s : StatementRecord) → s ≡ statement_at file (from + 4 * i) → s ≡ statement_at file (statements_start h + 4 * i)
+  stands i from ef s es = es ∙ ap (λ (k : ℕ). statement_at file (k + 4 * i)) ef
+
   module _ {nodes records starts statements folded₀ folded kept : List ℕ} {p : Progress} {i total : ℕ} where
-    -- there is one more
-    module _ (l : i < total) where
-      pub ordered_inside : SomeOrdered nodes records starts statements folded₀ folded kept p i total → statements_start h + 4 * i + 4 ≤ length file
+    -- there is one more, in the part that begins at byte `from`
+    module _ (l : i < total) (from : ℕ) (ef : from ≡ statements_start h) where
+      pub ordered_inside : SomeOrdered nodes records starts statements folded₀ folded kept p i total → from + 4 * i + 4 ≤ length file
       unfolding statement_records
       ordered_inside (ks, [], rest, before, o) = absurd (omega (arith, o.many))
-      ordered_inside (ks, st ∷ ss, rest, before, o) = omega (arith, o.coming.inside)
+      ordered_inside (ks, st ∷ ss, rest, before, o) = omega (arith, o.coming.inside, ef)
 
-      pub can_fold : (s : StatementRecord) → s ≡ statement_at file (statements_start h + 4 * i) → SomeOrdered nodes records starts statements folded₀ folded kept p i total → CanFold file h (tables nodes records starts statements) s p
-      unfolding statement_records
-      can_fold s es (ks, [], rest, before, o) = absurd (omega (arith, o.many))
-      can_fold s es (ks, st ∷ ss, rest, before, o) = (ks, st, ss, rest, before, o.taking, es ∙ first_record o.coming)
+      module _ (s : StatementRecord) (es : s ≡ statement_at file (from + 4 * i)) where
+        pub can_fold : SomeOrdered nodes records starts statements folded₀ folded kept p i total → CanFold file h (tables nodes records starts statements) s p
+        unfolding statement_records
+        can_fold (ks, [], rest, before, o) = absurd (omega (arith, o.many))
+        can_fold (ks, st ∷ ss, rest, before, o) = (ks, st, ss, rest, before, o.taking, stands i from ef s es ∙ first_record o.coming)
 
-      -- it is taken, and its number is written as the last of those that are kept
-      pub ordered_on : (nodes' records' starts' statements' folded' : List ℕ) (s : StatementRecord) (r : Progress) → s ≡ statement_at file (statements_start h + 4 * i)
-          → Folds ctx file h (tables nodes records starts statements) (tables nodes' records' starts' statements') folded folded' s p r → h.statements ≤ length kept
-          → SomeOrdered nodes records starts statements folded₀ folded kept p i total
-          → (0 < r.statements_kept) × (r.statements_kept ≤ length kept) × SomeOrdered nodes' records' starts' statements' folded₀ folded' (set kept (r.statements_kept - 1) i) r (i + 1) total
-      unfolding statement_records fold_statements ◌>>=◌
-      ordered_on nodes' records' starts' statements' folded' s r es w long (ks, [], rest, before, o) = absurd (omega (arith, o.many))
-      ordered_on nodes' records' starts' statements' folded' s r es w long (ks, st ∷ ss, rest, before, o) =
-          let v = fold_statement ctx i ks st in
-          let (rest', before', t, f) = w ks st ss rest before o.taking (es ∙ first_record o.coming) i in
-          let few = t.room.stated in
-          let (some, numbers) = number-written ctx kept i ks st r.statements_kept o.numbers t.holds.stated (omega (arith, few, long)) in
-          let on : Ordered nodes' records' starts' statements' folded₀ folded' (set kept (r.statements_kept - 1) i) r (i + 1) total v.result ss rest' before' =
-          record {
-            taking = t;
-            coming = next-records o.coming;
-            many = omega (arith, o.many);
-            numbers = numbers;
-            result-is = o.result-is;
-            adds = λ a. o.adds (adds_then (fold_statements ctx i ks (st ∷ ss)) refl refl f a);
-          } in
-          (some, omega (arith, few, long), (v.result, ss, rest', before', on))
+        -- it is taken, and its number is written as the last of those that are kept
+        pub ordered_on : {nodes' records' starts' statements' folded' : List ℕ} {r : Progress}
+            → Folds ctx file h (tables nodes records starts statements) (tables nodes' records' starts' statements') folded folded' s p r → h.statements ≤ length kept
+            → SomeOrdered nodes records starts statements folded₀ folded kept p i total
+            → (0 < r.statements_kept) × (r.statements_kept ≤ length kept) × SomeOrdered nodes' records' starts' statements' folded₀ folded' (set kept (r.statements_kept - 1) i) r (i + 1) total
+        unfolding statement_records fold_statements ◌>>=◌
+        ordered_on w long (ks, [], rest, before, o) = absurd (omega (arith, o.many))
+        ordered_on {nodes'} {records'} {starts'} {statements'} {folded'} {r} w long (ks, st ∷ ss, rest, before, o) =
+            let v = fold_statement ctx i ks st in
+            let (rest', before', t, f) = w ks st ss rest before o.taking (stands i from ef s es ∙ first_record o.coming) i in
+            let few = t.room.stated in
+            let (some, numbers) = number-written ctx kept i ks st r.statements_kept o.numbers t.holds.stated (omega (arith, few, long)) in
+            let on : Ordered nodes' records' starts' statements' folded₀ folded' (set kept (r.statements_kept - 1) i) r (i + 1) total v.result ss rest' before' =
+            record {
+              taking = t;
+              coming = next-records o.coming;
+              many = omega (arith, o.many);
+              numbers = numbers;
+              result-is = o.result-is;
+              adds = λ a. o.adds (adds_then (fold_statements ctx i ks (st ∷ ss)) refl refl f a);
+            } in
+            (some, omega (arith, few, long), (v.result, ss, rest', before', on))
 
     -- there is none
-    pub ordered_ends : total ≤ i → Long h (tables nodes records starts statements) folded₀ → h.statements ≤ length kept → Bytes records → Bytes statements → SomeOrdered nodes records starts statements folded₀ folded kept p i total
+    all_ordered : total ≤ i → Long h (tables nodes records starts statements) folded₀ → h.statements ≤ length kept → Bytes records → Bytes statements → SomeOrdered nodes records starts statements folded₀ folded kept p i total
         → FoldsAll file nodes records statements folded₀ folded kept (record { nodes_used = p.nodes_used; declarators_kept = p.declarators_kept; statements_kept = p.statements_kept; folds = p.folds; looks = p.looks })
     unfolding fold_file folded_file with_statements fold_statements pure laid_declarators laid_initializer nodes_in node_count
-    ordered_ends l (l₁, l₂, l₃, l₄, l₅) l₆ small small' (ks, st ∷ ss, rest, before, o) = absurd (omega (arith, o.many))
-    ordered_ends l (l₁, l₂, l₃, l₄, l₅) l₆ small small' (ks, [], rest, before, o) =
+    all_ordered l (l₁, l₂, l₃, l₄, l₅) l₆ small small' (ks, st ∷ ss, rest, before, o) = absurd (omega (arith, o.many))
+    all_ordered l (l₁, l₂, l₃, l₄, l₅) l₆ small small' (ks, [], rest, before, o) =
         let a = o.taking.holds in
         let m = o.taking.room in
         let e = ap (map statement_of) o.result-is in
@@ -127,3 +132,9 @@ module _ (file : List ℕ) (h : Header) where
             looks = omega (arith, w.looks);
           },
         )
+
+    -- so it is of the slices that lent these tables
+    pub ordered_ends : {nodes' records' statements' : List ℕ} → nodes' ≡ nodes → records' ≡ records → statements' ≡ statements
+        → total ≤ i → Long h (tables nodes records starts statements) folded₀ → h.statements ≤ length kept → Bytes records' → Bytes statements' → SomeOrdered nodes records starts statements folded₀ folded kept p i total
+        → FoldsAll file nodes' records' statements' folded₀ folded kept (record { nodes_used = p.nodes_used; declarators_kept = p.declarators_kept; statements_kept = p.statements_kept; folds = p.folds; looks = p.looks })
+    ordered_ends en er es l long l₆ small small' o = rw (en, er, es) (all_ordered l long l₆ (subst Bytes er small) (subst Bytes es small') o)

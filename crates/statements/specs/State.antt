@@ -13,6 +13,22 @@ use Rattle.statements_search.specs.Kept.{laid_initializer, node_count, bare_init
 use Rattle.statements_search.specs.KeptStatements.{Tables, tables, laid_kept, nodes_kept, declarators_kept, bare_kept, HeldKept}
 use Rattle.records_table.specs.Loads.{FileForest}
 use Rattle.statements_progress.specs.declared.progress.Progress.{Progress}
+use Rattle.statements.specs.declared.tables.Tables.{Tables as LentTables}
+
+-- what the lent tables hold
+abbrev pub tables_of : LentTables → Tables
+tables_of t = tables t.nodes.now t.declarators.now t.starts.now t.statements.now
+
+-- the same slices are lent still, and are as long as they were
+pub record SameSlices (t t' : LentTables) : Type 0 where
+  pub nodes : t'.nodes.ghost_name ≡ t.nodes.ghost_name
+  pub declarators : t'.declarators.ghost_name ≡ t.declarators.ghost_name
+  pub starts : t'.starts.ghost_name ≡ t.starts.ghost_name
+  pub statements : t'.statements.ghost_name ≡ t.statements.ghost_name
+  pub nodes-length : length t'.nodes.now ≡ length t.nodes.now
+  pub declarators-length : length t'.declarators.now ≡ length t.declarators.now
+  pub starts-length : length t'.starts.now ≡ length t.starts.now
+  pub statements-length : length t'.statements.now ≡ length t.statements.now
 
 -- the tables that the search within a declaration uses; and with the statements beside them
 pub record DeclaratorTables : Type 0 where
@@ -22,6 +38,9 @@ pub record DeclaratorTables : Type 0 where
 
 abbrev pub declarator_tables : List ℕ → List ℕ → List ℕ → DeclaratorTables
 declarator_tables nodes declarators starts = record { nodes = nodes; declarators = declarators; starts = starts }
+
+abbrev pub declarator_tables_of : LentTables → DeclaratorTables
+declarator_tables_of t = declarator_tables t.nodes.now t.declarators.now t.starts.now
 
 abbrev pub with_statement_table : DeclaratorTables → List ℕ → Tables
 with_statement_table t statements = tables t.nodes t.declarators t.starts statements

@@ -1,15 +1,15 @@
 // The statements of an accepted file, in order (src/peephole/minimize_statements.rs 53-90: the loop of `minimize_statements`).
 ghost use Rattle.std.specs.Prelude.{◌≤◌, length};
-ghost use Rattle.records.specs.File.{IsHeaderOf};
 ghost use Rattle.statements.specs.State.{Long};
 ghost use Rattle.statements.specs.Folds.{Accepted, FoldsAll};
 ghost use Rattle.statements_search.specs.KeptStatements.{tables};
 
 use crate::statement::fold_statement;
-use records::layout::{Header, NodeId, statement_at};
+use crate::tables::Tables;
+use records::layout::{NodeId, statement_at};
 use records::limits::STATEMENT_LENGTH;
-use records::number::size;
 use records::parts::part_offsets;
+use records::record_file::RecordFile;
 use statements_progress::progress::Progress;
 
 // How many nodes are in use, how many declarators and statements are kept, the folds and the looks.
@@ -23,10 +23,10 @@ pub struct Totals {
 }
 
 // Fills the tables with what is kept, and two lists: the names that were folded, in the order of the folds, and the numbers
-// that the statements had in the file.
+// that the statements had in the file. The tables are parameters here, since a proof knows only of a slice of its own, and not of
+// one in a struct, that it holds bytes.
 pub fn fold_statements(
-    file: &[u8],
-    h: Header,
+    file: &RecordFile<'_>,
     nodes: &mut [u8],
     declarators: &mut [u8],
     starts: &mut [usize],
@@ -34,16 +34,20 @@ pub fn fold_statements(
     folded: &mut [u16],
     kept: &mut [u16],
 ) -> Totals
-    requires header { IsHeaderOf h file.now }
-    requires accepted { Accepted file.now }
-    requires room { Long h (tables nodes.old declarators.old starts.old statements.old) folded.old }
-    requires kept { h.statements ≤ length kept.old }
-    ensures folded { FoldsAll file.now nodes.new declarators.new statements.new
+    requires accepted { Accepted file.now.bytes.now }
+    requires room { Long file.now.header (tables nodes.old declarators.old starts.old statements.old) folded.old }
+    requires kept { file.now.header.statements ≤ length kept.old }
+    ensures folded { FoldsAll file.now.bytes.now nodes.new declarators.new statements.new
         folded.old folded.new kept.new result }
 {
-    let parts = part_offsets(h);
+    let mut tables = Tables {
+        nodes,
+        declarators,
+        starts,
+        statements,
+    };
+    let parts = part_offsets(file.header);
     let from = parts[5];
-    let count = size(h.statements);
     let mut p = Progress {
         tree: NodeId(0),
         nodes_used: 0,
@@ -54,25 +58,14 @@ pub fn fold_statements(
         nodes_read: 0,
         declarators_read: 0,
     };
-    let mut i: usize = 0;
-    while i < count {
-        let s = statement_at(file, from + STATEMENT_LENGTH * i);
-        p = fold_statement(
-            file,
-            h,
-            nodes,
-            declarators,
-            starts,
-            statements,
-            folded,
-            s,
-            p,
-        );
+    for i in 0..usize::from(file.header.statements) {
+        let s = statement_at(file.bytes, from + STATEMENT_LENGTH * i);
+        p = fold_statement(file, &mut tables, folded, s, p);
         // it is the last that is kept
         let last = p.statements_kept - 1;
         kept[last] = i as u16;
-        i += 1;
     }
+    // made here alone, so that a `From` would be no plainer
     Totals {
         nodes_used: p.nodes_used,
         declarators_kept: p.declarators_kept,

@@ -6,4 +6,5 @@ pub mod declaration;
 pub mod in_order;
 pub mod next;
 pub mod statement;
+pub mod tables;
 pub mod within_declaration;

@@ -1,11 +1,13 @@
 // The declarators of a declaration behind the first, each searched from those before it
 // (src/peephole/minimize_statements.rs 1167-1204).
-ghost use Rattle.records.specs.File.{read, IsHeaderOf};
+ghost use Rattle.std.specs.Prelude.{◌≡◌};
+ghost use Rattle.records.specs.File.{read};
 ghost use Rattle.walk_rules.specs.Context.{context_of};
-ghost use Rattle.statements.specs.State.{declarator_tables, LongWithin};
+ghost use Rattle.statements.specs.State.{declarator_tables_of, LongWithin, SameSlices};
 ghost use Rattle.statements.specs.Declarators.{CanTakeLaterTree, TakenLaterTree, CanTakeLater, TakenLater, CanTakeAll, TakenAll};
 
-use records::layout::Header;
+use crate::tables::Tables;
+use records::record_file::RecordFile;
 use statements_progress::folded::list_folded;
 use statements_progress::next::{load_next, next_declarator};
 use statements_progress::progress::Progress;
@@ -23,38 +25,33 @@ pub(crate) struct Declaration {
 
 // Loads the next tree, and searches it from the declarators before it, if the declaration is searched.
 fn substitute_in_later_tree(
-    file: &[u8],
-    h: Header,
-    nodes: &mut [u8],
-    declarators: &[u8],
-    starts: &[usize],
+    file: &RecordFile<'_>,
+    tables: &mut Tables<'_>,
     folded: &mut [u16],
     d: Declaration,
     p: Progress,
 ) -> Progress
-    requires header { IsHeaderOf h file.now }
-    requires room { LongWithin h (declarator_tables nodes.old declarators.now starts.now) folded.old }
-    requires state { CanTakeLaterTree file.now h
-        (declarator_tables nodes.old declarators.now starts.now) d.first p }
-    ensures taken { TakenLaterTree (context_of (read file.now)) d.searched file.now h
-        (declarator_tables nodes.old declarators.now starts.now)
-        (declarator_tables nodes.new declarators.now starts.now)
+    requires room { LongWithin file.now.header (declarator_tables_of tables.old) folded.old }
+    requires state { CanTakeLaterTree file.now.bytes.now file.now.header (declarator_tables_of tables.old) d.first p }
+    ensures taken { TakenLaterTree (context_of (read file.now.bytes.now)) d.searched file.now.bytes.now
+        file.now.header (declarator_tables_of tables.old) (declarator_tables_of tables.new)
         folded.old folded.new d.first p result }
+    ensures declarators { tables.new.declarators.now ≡ tables.old.declarators.now }
+    ensures starts { tables.new.starts.now ≡ tables.old.starts.now }
+    ensures statements { tables.new.statements.now ≡ tables.old.statements.now }
+    ensures slices { SameSlices tables.old tables.new }
 {
-    let l = load_next(file, h, nodes, p);
+    let l = load_next(file.bytes, file.header, tables.nodes, p);
     if !d.searched {
         return l;
     }
-    let tree = l.tree;
-    let target = SearchedTree {
-        declarators_kept: l.declarators_kept,
-        tree,
-        nodes_used: l.nodes_used,
-    };
+    let target = SearchedTree::from(l);
+    // as `&mut`, since two fields that are lent as `&` at once aren't covered by the check
+    let declarators = &mut *tables.declarators;
+    let starts = &mut *tables.starts;
     let r = substitute_single_use_symbol_in_expression_from_declarators(
         file,
-        h,
-        nodes,
+        tables.nodes,
         declarators,
         starts,
         d.first,
@@ -68,72 +65,61 @@ fn substitute_in_later_tree(
         folded,
         l.folds,
     );
-    let tree = r.tree;
     Progress {
-        tree,
+        tree: r.tree,
         nodes_used: r.nodes_used,
         declarators_kept: r.declarators_kept,
-        statements_kept: l.statements_kept,
         folds: l.folds + r.folds,
         looks: l.looks + r.looks,
-        nodes_read: l.nodes_read,
-        declarators_read: l.declarators_read,
+        ..l
     }
 }
 
-// The next declarator.
+// The next declarator. Apart from `fold_first_declarator`, since the searches below them ask for other facts and give other ones.
 fn fold_later_declarator(
-    file: &[u8],
-    h: Header,
-    nodes: &mut [u8],
-    declarators: &mut [u8],
-    starts: &mut [usize],
+    file: &RecordFile<'_>,
+    tables: &mut Tables<'_>,
     folded: &mut [u16],
     d: Declaration,
     p: Progress,
 ) -> Progress
-    requires header { IsHeaderOf h file.now }
-    requires room { LongWithin h (declarator_tables nodes.old declarators.old starts.old) folded.old }
-    requires state { CanTakeLater file.now h (declarator_tables nodes.old declarators.old starts.old) d.first p }
-    ensures taken { TakenLater (context_of (read file.now)) d.searched file.now h
-        (declarator_tables nodes.old declarators.old starts.old)
-        (declarator_tables nodes.new declarators.new starts.new)
+    requires room { LongWithin file.now.header (declarator_tables_of tables.old) folded.old }
+    requires state { CanTakeLater file.now.bytes.now file.now.header (declarator_tables_of tables.old) d.first p }
+    ensures taken { TakenLater (context_of (read file.now.bytes.now)) d.searched file.now.bytes.now
+        file.now.header (declarator_tables_of tables.old) (declarator_tables_of tables.new)
         folded.old folded.new d.first p result }
+    ensures statements { tables.new.statements.now ≡ tables.old.statements.now }
+    ensures slices { SameSlices tables.old tables.new }
 {
-    let next = next_declarator(file, h, p);
-    let given = next.present == 1;
-    if given {
-        let l = substitute_in_later_tree(file, h, nodes, declarators, starts, folded, d, p);
-        return push_declarator(declarators, starts, next, l);
-    }
-    push_declarator(declarators, starts, next, p)
+    let next = next_declarator(file.bytes, file.header, p);
+    let l = if next.present == 1 {
+        substitute_in_later_tree(file, tables, folded, d, p)
+    } else {
+        p
+    };
+    push_declarator(tables.declarators, tables.starts, next, l)
 }
 
 // The next `many` declarators.
 pub(crate) fn substitute_single_use_symbol_within_declaration(
-    file: &[u8],
-    h: Header,
-    nodes: &mut [u8],
-    declarators: &mut [u8],
-    starts: &mut [usize],
+    file: &RecordFile<'_>,
+    tables: &mut Tables<'_>,
     folded: &mut [u16],
     d: Declaration,
     many: usize,
     p: Progress,
 ) -> Progress
-    requires header { IsHeaderOf h file.now }
-    requires room { LongWithin h (declarator_tables nodes.old declarators.old starts.old) folded.old }
-    requires state { CanTakeAll file.now h (declarator_tables nodes.old declarators.old starts.old) d.first many p }
-    ensures taken { TakenAll (context_of (read file.now)) d.searched file.now h
-        (declarator_tables nodes.old declarators.old starts.old)
-        (declarator_tables nodes.new declarators.new starts.new)
+    requires room { LongWithin file.now.header (declarator_tables_of tables.old) folded.old }
+    requires state { CanTakeAll file.now.bytes.now file.now.header (declarator_tables_of tables.old) d.first many p }
+    ensures taken { TakenAll (context_of (read file.now.bytes.now)) d.searched file.now.bytes.now
+        file.now.header (declarator_tables_of tables.old) (declarator_tables_of tables.new)
         folded.old folded.new d.first many p result }
+    ensures statements { tables.new.statements.now ≡ tables.old.statements.now }
+    ensures slices { SameSlices tables.old tables.new }
 {
-    let mut left = many;
     let mut q = p;
-    while 0 < left {
-        q = fold_later_declarator(file, h, nodes, declarators, starts, folded, d, q);
-        left -= 1;
+    for _ in 0..many {
+        q = fold_later_declarator(file, tables, folded, d, q);
     }
     q
 }

@@ -1,15 +1,18 @@
 -- The end of the search at a declarator, by the cases and the test that the code takes. Assumes nothing.
 use Prim.Native.Nat.{ℕ}
+use native.Mathlib.Omega.{arith}
 use mathlib.Core.Bool.{Bool, true, false, ◌&&◌, ◌||◌, not, or-true}
 use mathlib.Core.List.{List}
 use mathlib.Core.Path.{◌≡◌, refl, sym, ap, ◌∙◌}
 use lib.Dec.{eqb, ltb}
+use lib.ListN.{get_or}
 use Rattle.records.specs.Limits.{no_number}
 use Rattle.records.specs.Flags.{bit, anonymous, recorded}
 use Rattle.records.specs.Record.{header_of}
 use Rattle.records.specs.Tree.{Tree, node, node_of}
 use Rattle.records.specs.Place.{root}
-use Rattle.records.specs.File.{read}
+use Rattle.records.specs.File.{names_of, read}
+use Rattle.records.specs.Script.{no_name}
 use Rattle.records.specs.declared.layout.Header.{Header}
 use Rattle.records.specs.declared.layout.NameId.{NameId}
 use Rattle.records.specs.declared.layout.NameFacts.{NameFacts}
@@ -29,6 +32,11 @@ pub options_are : (bs : List ℕ) {h : Header} → h ≡ header_of bs → (conte
 unfolding context_of read
 options_are bs e = ap (λ (x : Header). x.options) (sym e)
 
+-- the facts of a name of a file
+pub facts_are : (bs : List ℕ) (k : ℕ) {x : NameFacts} → x ≡ get_or (names_of bs) k no_name → x ≡ facts_of (context_of (read bs)) k
+unfolding context_of read facts_of names_of
+facts_are bs k e = e
+
 -- the name of an initializer, kept or not
 pub name-kept : (h : Header) (n : NodeRecord) → KeepsName h n (anonymous n.flags && (eqb n.kind 3 && bit 4 h.options || eqb n.kind 2 && bit 2 h.options))
 unfolding name_needs_to_be_kept node_of
@@ -36,10 +44,7 @@ name-kept h n ctx o (node m kids) e = rw (e, o) refl
 
 -- two tests that are known, and one that never holds
 without : (a k o x y l b : Bool) → (a || k || o || x || y || l && not b) ≡ (false || a || k || not true || o || x || y || l && not (b || false && true))
-without true k o x y l b = refl
-without false true o x y l b = refl
-without false false o x y l true = refl
-without false false o x y l false = refl
+without a k o x y l b = grind arith
 
 -- the tests behind the name and the value record
 pub rest-ends : (h : Header) (facts : NameFacts) (reads writes : ℕ) (n : NodeRecord) (literal_only kept : Bool) → KeepsName h n kept

@@ -1,12 +1,11 @@
 -- Where no search is made: by the scope, by the kind of declaration. Assumes nothing.
 use Prim.Native.Nat.{ℕ}
 use native.Mathlib.Omega.{arith}
-use mathlib.Core.Bool.{Bool, true, false, ◌&&◌, ◌||◌, not}
+use mathlib.Core.Bool.{◌&&◌, ◌||◌}
 use mathlib.Core.List.{List}
 use mathlib.Core.Path.{◌≡◌, refl}
-use lib.Dec.{eqb, ltb}
+use lib.Dec.{eqb, leb}
 use lib.ListN.{get_or}
-use borrow.Author.Tests.{eqb-true, eqb-false, le-ltb}
 use Rattle.records.specs.Flags.{bit}
 use Rattle.records.specs.Facts.{no_scope}
 use Rattle.records.specs.Record.{header_of}
@@ -23,15 +22,6 @@ unfolding is_unsearched is_script_root_scope context_of read scope_of
 by-scope bs h s e f = rw (f, e) refl
 
 -- "3 using, 4 await using"
-
-pub from-three : (k : ℕ) → not (ltb k 3) ≡ is_using (declaration_kind k)
+pub from-three : (k : ℕ) → leb 3 k ≡ is_using (declaration_kind k)
 unfolding declaration_kind is_using
-from-three k = by (eqb k 0) (eqb k 1) (eqb k 2) (eqb k 3) refl refl refl refl
-  where
-    by : (x y z w : Bool) → eqb k 0 ≡ x → eqb k 1 ≡ y → eqb k 2 ≡ z → eqb k 3 ≡ w → not (ltb k 3) ≡ is_using (declaration_kind k)
-    by true y z w a b c d = rw (eqb-true k 0 a) refl
-    by false true z w a b c d = rw (eqb-true k 1 b) refl
-    by false false true w a b c d = rw (eqb-true k 2 c) refl
-    by false false false true a b c d = rw (eqb-true k 3 d) refl
-    by false false false false a b c d =
-        rw (le-ltb k 3 (omega (arith, eqb-false k 0 a, eqb-false k 1 b, eqb-false k 2 c)), a, b, c, d) refl
+from-three k = grind arith

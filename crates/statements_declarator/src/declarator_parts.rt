@@ -3,10 +3,10 @@
 ghost use Rattle.std.specs.Prelude.{◌≡◌};
 ghost use Rattle.statements_declarator.specs.Cases.{initializer_of, plain_name, value_record};
 
-use records::flags::is_recorded;
 use records::layout::{DeclaratorRecord, NameFacts, NameId, NodeId};
 use records::limits::NO_NUMBER;
 
+// Three small enums and no Option: docs/DECISIONS.md, "Forms by location", asks for them where a search matches with `let .. else`.
 #[derive(Clone, Copy)]
 pub enum Initializer {
     Given(NodeId),
@@ -29,8 +29,7 @@ pub enum ValueRecord {
 pub fn initializer_of(d: DeclaratorRecord, start: NodeId) -> Initializer
     ensures result { result ≡ initializer_of d start }
 {
-    let present = d.present == 1;
-    if present {
+    if d.present == 1 {
         return Initializer::Given(start);
     }
     Initializer::Bare
@@ -39,8 +38,7 @@ pub fn initializer_of(d: DeclaratorRecord, start: NodeId) -> Initializer
 pub fn plain_name(d: DeclaratorRecord) -> PlainName
     ensures result { result ≡ plain_name d }
 {
-    let pattern = d.name == NO_NUMBER;
-    if pattern {
+    if d.name == NO_NUMBER {
         return PlainName::Pattern;
     }
     PlainName::Name(NameId(d.name))
@@ -50,7 +48,7 @@ pub fn plain_name(d: DeclaratorRecord) -> PlainName
 pub fn value_record(n: NameFacts) -> ValueRecord
     ensures result { result ≡ value_record n }
 {
-    if is_recorded(n) {
+    if n.is_recorded() {
         return ValueRecord::Recorded(n.reads, n.writes);
     }
     ValueRecord::Unrecorded

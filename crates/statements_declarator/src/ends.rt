@@ -2,10 +2,6 @@
 // src/traverse_context/ecma_context.rs 423-433).
 ghost use Rattle.statements_declarator.specs.Ends.{KeepsName, Ends};
 
-use records::flags::{
-    is_anonymous, is_catch_variable, is_implicitly_observable, keeps_class_names,
-    keeps_function_names,
-};
 use records::kinds::{CLASS, FUNCTION, LITERAL};
 use records::layout::{Header, NameFacts, NodeRecord};
 
@@ -13,9 +9,9 @@ use records::layout::{Header, NameFacts, NodeRecord};
 pub fn is_expression_whose_name_needs_to_be_kept(h: Header, root: NodeRecord) -> bool
     ensures result { KeepsName h root result }
 {
-    let class = (root.kind == CLASS) & keeps_class_names(h);
-    let function = (root.kind == FUNCTION) & keeps_function_names(h);
-    is_anonymous(root) & (class | function)
+    let class = (root.kind == CLASS) & h.keeps_class_names();
+    let function = (root.kind == FUNCTION) & h.keeps_function_names();
+    root.is_anonymous() & (class | function)
 }
 
 // The tests behind the plain name and the value record. `root` is the root of the initializer.
@@ -29,10 +25,10 @@ pub fn ends_search(
 ) -> bool
     ensures result { Ends h name reads writes root literal_only result }
 {
-    is_catch_variable(name)
+    name.is_catch_variable()
         | is_expression_whose_name_needs_to_be_kept(h, root)
-        | is_implicitly_observable(name)
+        | name.is_implicitly_observable()
         | (1 < reads)
         | (0 < writes)
-        | literal_only & !(root.kind == LITERAL)
+        | literal_only & (root.kind != LITERAL)
 }

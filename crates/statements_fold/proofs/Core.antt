@@ -9,13 +9,15 @@ use lib.ListN.{length, take, drop, length-append}
 use lib.Seq.{take-append_seam}
 use lib.Dec.{eqb}
 use borrow.Author.Tests.{eqb-true, ne_eqb, le-leb}
+use Rattle.std.specs.Prelude.{Result}
 use Rattle.records.specs.File.{read, print}
 use Rattle.records.specs.Refusal.{refusal, room_wanted}
 use Rattle.statements_rules.specs.Fold.{fold_file, accepted, refused, fold_bytes}
 use Rattle.theory_demands.proofs.Laws.{returned, result-is, length_most}
+use Rattle.records_refusal.specs.declared.outcome.Refusal.{Refusal}
 use Rattle.statements_fold.specs.declared.tables.Outcome.{Outcome}
 use Rattle.statements_fold.specs.Answer.{laid_over}
-use Rattle.statements_fold.specs.Outcome.{outcome_of, laid_if_room, if_accepted, FoldsRecords}
+use Rattle.statements_fold.specs.Outcome.{Numbers, numbers, outcome_of, laid_if_room, if_accepted, FoldsRecords}
 
 -- the number is that of the table
 pub number_is : (bs : List ℕ) (room : ℕ) → (fold_bytes bs room).number ≡ refusal bs room
@@ -27,13 +29,13 @@ number_is bs room = by (refusal bs room)
     by (suc n) = rw (ne_eqb (suc n) 0 (λ z. omega (arith, z))) refl
 
 -- The numbers and the output are the definition's; the result stands at the start of the output.
-pub record FoldsBytes (bs : List ℕ) (room : ℕ) (output output' : List ℕ) (r : Outcome) : Type 0 where
-  pub number : r.number ≡ (fold_bytes bs room).number
-  pub measured : r.length ≡ (fold_bytes bs room).result_length
-  pub folds : r.folds ≡ (fold_bytes bs room).folds
+pub record FoldsBytes (bs : List ℕ) (room : ℕ) (output output' : List ℕ) (r : Result Outcome Refusal) : Type 0 where
+  pub number : (numbers r).number ≡ (fold_bytes bs room).number
+  pub measured : (numbers r).length ≡ (fold_bytes bs room).result_length
+  pub folds : (numbers r).folds ≡ (fold_bytes bs room).folds
   pub written : output' ≡ laid_over (fold_bytes bs room) output
-  pub within : r.length ≤ length output'
-  pub result : take r.length output' ≡ (fold_bytes bs room).result
+  pub within : (numbers r).length ≤ length output'
+  pub result : take (numbers r).length output' ≡ (fold_bytes bs room).result
 
 -- where the output has the room that an accepted file wants
 module _ (bs : List ℕ) (room : ℕ) (output : List ℕ) (long : refusal bs room ≡ 0 → room_wanted bs ≤ length output) where
@@ -67,17 +69,17 @@ module _ (bs : List ℕ) (room : ℕ) (output : List ℕ) (long : refusal bs roo
       by true q = of_accepted (eqb-true (refusal bs room) 0 q)
       by false q = of_refused q
 
-  pub by_definition : {output' names names' kept : List ℕ} {r : Outcome} → FoldsRecords bs room output output' names names' kept r → FoldsBytes bs room output output' r
+  pub by_definition : {output' names names' kept : List ℕ} {r : Result Outcome Refusal} → FoldsRecords bs room output output' names names' kept r → FoldsBytes bs room output output' r
   by_definition {output' = output'} {r = r} w =
       let result = (fold_bytes bs room).result in
       let (n, m, k, o, s) = alike in
-      let e : r.length ≡ length result = ap (λ (x : Outcome). x.length) w.outcome ∙ m ∙ s in
+      let e : (numbers r).length ≡ length result = ap (λ (x : Numbers). x.length) w.outcome ∙ m ∙ s in
       let written : output' ≡ laid_over (fold_bytes bs room) output = w.written ∙ o in
       let many = ap length written ∙ length-append result (drop (length result) output) in
       record {
-        number = ap (λ (x : Outcome). x.number) w.outcome ∙ n;
-        measured = ap (λ (x : Outcome). x.length) w.outcome ∙ m;
-        folds = ap (λ (x : Outcome). x.folds) w.outcome ∙ k;
+        number = ap (λ (x : Numbers). x.number) w.outcome ∙ n;
+        measured = ap (λ (x : Numbers). x.length) w.outcome ∙ m;
+        folds = ap (λ (x : Numbers). x.folds) w.outcome ∙ k;
         written = written;
         within = omega (arith, e, many);
         result = rw (e, written) (take-append_seam result (drop (length result) output));

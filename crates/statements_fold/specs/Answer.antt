@@ -1,8 +1,9 @@
 -- The answer of the fold, with document 01's number and values for each case, and the output.
-use Rattle.std.specs.Prelude.{ℕ, List, ◌++◌, length, drop}
+use Rattle.std.specs.Prelude.{ℕ, List, ◌++◌, length, drop, Result, Ok, Err}
+use Rattle.records_refusal.specs.declared.outcome.Refusal.{Refusal}
+use Rattle.records_refusal.specs.Number.{row_number}
 use Rattle.statements_rules.specs.Fold.{Returned}
-use Rattle.statements_fold.specs.declared.FoldAnswer.{FoldAnswer}
-use Rattle.statements_fold.specs.declared.FoldAnswer.TheVariants.{Refused, Written}
+use Rattle.statements_fold.specs.declared.Folded.{Folded}
 
 -- the returned number (0 for success, which document 01 leaves free), the result's length and the declarators folded
 pub record Numbers : Type 0 where
@@ -11,9 +12,9 @@ pub record Numbers : Type 0 where
   pub folds : ℕ
 
 -- "A refusal returns length 0, folds 0. Otherwise: result length, declarators folded"
-abbrev pub numbers : FoldAnswer → Numbers
-numbers (Refused n) = record { number = n; result_length = 0; folds = 0 }
-numbers (Written l k) = record { number = 0; result_length = l; folds = k }
+abbrev pub numbers : Result Folded Refusal → Numbers
+numbers (Err e) = record { number = row_number e; result_length = 0; folds = 0 }
+numbers (Ok r) = record { number = 0; result_length = r.length; folds = r.folds }
 
 abbrev pub numbers_of : Returned → Numbers
 numbers_of w = record { number = w.number; result_length = w.result_length; folds = w.folds }

@@ -1,9 +1,9 @@
 -- The list of folded names, entry after entry. Assumes nothing.
-use mathlib.Core.Path.{◌≡◌, refl, sym, ap, ap₂, ◌∙◌, subst}
+use mathlib.Core.Path.{◌≡◌, sym, ap, ap₂, ◌∙◌, subst}
 use mathlib.Core.List.{List, [], ◌∷◌, ◌++◌, append_assoc}
 use Prim.Native.Nat.{ℕ, ◌+◌, ◌-◌, ◌*◌, ◌≤◌, ◌<◌}
 use native.Mathlib.Omega.{arith}
-use lib.ListN.{length, set, length-append, length-set}
+use lib.ListN.{length, set, length-append}
 use lib.Seq.{set_at}
 use Rattle.records.specs.Record.{declarator_at}
 use Rattle.records.specs.declared.layout.DeclaratorRecord.{DeclaratorRecord}
@@ -44,27 +44,21 @@ name-listed {l} {l'} records folds last many next d some most e r o =
     (both-written folds next (names_from records last n) (d.name ∷ []) (omega (arith, e, names-length records last n)) o (entry-written l' next d.name))
 
 -- Where the loop that lists names is: those from number `last` on are listed.
-pub record Listing (records : List ℕ) (left many folds : ℕ) (folded₀ folded : List ℕ) (last next : ℕ) : Type 0 where
-  pub same : length folded ≡ length folded₀
+pub record Listing (records : List ℕ) (left many folds : ℕ) (folded₀ folded : List ℕ) (last : ℕ) : Type 0 where
   pub low : left ≤ last
-  pub most : last ≤ many
-  pub next-is : next ≡ folds + (many - last)
   pub names : Overwrites folded₀ folded folds (names_from records last (many - last))
 
-pub listing_begins : (records : List ℕ) (left many folds : ℕ) (folded : List ℕ) → left ≤ many → Listing records left many folds folded folded many folds
+pub listing_begins : (records : List ℕ) (left many folds : ℕ) (folded : List ℕ) → left ≤ many → Listing records left many folds folded folded many
 unfolding names_from
 listing_begins records left many folds folded l =
     let none : many - many ≡ 0 = omega arith in
-    record { same = refl; low = l; most = omega arith; next-is = omega arith; names = rw none (none_written folded folds) }
+    record { low = l; names = rw none (none_written folded folds) }
 
-module _ {records : List ℕ} {left many folds : ℕ} {folded₀ folded : List ℕ} {last next : ℕ} (g : Listing records left many folds folded₀ folded last next) where
-  pub listing_on : (d : DeclaratorRecord) → left < last → d ≡ declarator_at records (4 * (last - 1)) → Listing records left many folds folded₀ (set folded next d.name) (last - 1) (next + 1)
-  listing_on d l e = record {
-    same = length-set folded next d.name ∙ g.same;
+module _ {records : List ℕ} {left many folds : ℕ} {folded₀ folded : List ℕ} {last : ℕ} (g : Listing records left many folds folded₀ folded last) where
+  pub listing_on : (d : DeclaratorRecord) (next : ℕ) → next ≡ folds + (many - last) → last ≤ many → left < last → d ≡ declarator_at records (4 * (last - 1)) → Listing records left many folds folded₀ (set folded next d.name) (last - 1)
+  listing_on d next i m l e = record {
     low = omega arith;
-    most = omega (arith, g.most);
-    next-is = omega (arith, g.next-is, g.most, l);
-    names = name-listed records folds last many next d (omega (arith, l)) g.most g.next-is e g.names;
+    names = name-listed records folds last many next d (omega (arith, l)) m i e g.names;
   }
 
   pub listing_ends : last ≤ left → Overwrites folded₀ folded folds (names_from records left (many - left))

@@ -14,12 +14,8 @@ pub fn list_folded(declarators: &[u8], left: usize, many: usize, folded: &mut [u
     ensures listed { Overwrites folded.old folded.new folds
         (names_from declarators.now left (many - left)) }
 {
-    let mut last = many;
-    let mut next = folds;
-    while left < last {
-        last -= 1;
+    for last in (left..many).rev() {
         let d = declarator_at(declarators, DECLARATOR_LENGTH * last);
-        folded[next] = d.name;
-        next += 1;
+        folded[folds + (many - 1 - last)] = d.name;
     }
 }

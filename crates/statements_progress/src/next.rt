@@ -10,29 +10,25 @@ use records::limits::DECLARATOR_LENGTH;
 use records::parts::part_offsets;
 use records_table::load::load_tree;
 
-pub fn next_declarator(file: &[u8], h: Header, p: Progress) -> DeclaratorRecord
-    requires room { declarators_start h + 4 * p.declarators_read + 4 ≤ length file.now }
-    ensures result { result ≡ declarator_at file.now (declarators_start h + 4 * p.declarators_read) }
+pub fn next_declarator(bytes: &[u8], header: Header, p: Progress) -> DeclaratorRecord
+    requires room { declarators_start header + 4 * p.declarators_read + 4 ≤ length bytes.now }
+    ensures result { result ≡ declarator_at bytes.now (declarators_start header + 4 * p.declarators_read) }
 {
-    let parts = part_offsets(h);
-    declarator_at(file, parts[4] + DECLARATOR_LENGTH * p.declarators_read)
+    let parts = part_offsets(header);
+    declarator_at(bytes, parts[4] + DECLARATOR_LENGTH * p.declarators_read)
 }
 
 // Loads the next tree of the file behind the nodes that are in use.
-pub fn load_next(file: &[u8], h: Header, nodes: &mut [u8], p: Progress) -> Progress
-    requires tree { HasTree file.now h nodes.old p }
-    ensures loaded { Loaded file.now h nodes.old nodes.new p result }
+pub fn load_next(bytes: &[u8], header: Header, nodes: &mut [u8], p: Progress) -> Progress
+    requires tree { HasTree bytes.now header nodes.old p }
+    ensures loaded { Loaded bytes.now header nodes.old nodes.new p result }
 {
-    let parts = part_offsets(h);
-    let size = load_tree(file, parts[3], NodeId(p.nodes_read), nodes, p.nodes_used);
+    let parts = part_offsets(header);
+    let size = load_tree(bytes, parts[3], NodeId(p.nodes_read), nodes, p.nodes_used);
     Progress {
         tree: NodeId(p.nodes_used),
         nodes_used: p.nodes_used + size,
-        declarators_kept: p.declarators_kept,
-        statements_kept: p.statements_kept,
-        folds: p.folds,
-        looks: p.looks,
         nodes_read: p.nodes_read + size,
-        declarators_read: p.declarators_read,
+        ..p
     }
 }

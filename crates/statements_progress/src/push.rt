@@ -24,17 +24,12 @@ pub fn push_declarator(
     let kept = p.declarators_kept;
     let at = DECLARATOR_LENGTH * kept;
     put_declarator(&mut declarators[at..], d);
-    let tree = p.tree;
-    starts[kept] = tree.0;
+    starts[kept] = p.tree.0;
     Progress {
         tree: NodeId(p.nodes_used),
-        nodes_used: p.nodes_used,
         declarators_kept: kept + 1,
-        statements_kept: p.statements_kept,
-        folds: p.folds,
-        looks: p.looks,
-        nodes_read: p.nodes_read,
         declarators_read: p.declarators_read + 1,
+        ..p
     }
 }
 
@@ -48,12 +43,7 @@ pub fn push_statement(statements: &mut [u8], s: StatementRecord, p: Progress) ->
     put_statement(&mut statements[at..], s);
     Progress {
         tree: NodeId(p.nodes_used),
-        nodes_used: p.nodes_used,
-        declarators_kept: p.declarators_kept,
         statements_kept: kept + 1,
-        folds: p.folds,
-        looks: p.looks,
-        nodes_read: p.nodes_read,
-        declarators_read: p.declarators_read,
+        ..p
     }
 }

@@ -287,19 +287,19 @@ module _ (ctx : Context) (literal_only : Bool) (records starts : List ℕ) (low 
               let (rest'', g') = going_on g (stepped d x (e ∙ first_record g.row) (first-stands g.row) t) h in
               (ds', (step d target').target, rest'', g')
 
-      pub some-ends : r.folded ≡ false → SearchesFrom ctx literal_only table₀ table' records starts low many start used (come_to left tree end folds (looks + r.looks))
-      some-ends h at ds target pre rest s before kind =
-          let (ds', target', rest', g) = w at ds target pre rest s in by ds' g
+      pub some-ends : {kept : ℕ} → kept ≡ left → r.folded ≡ false → SearchesFrom ctx literal_only table₀ table' records starts low many start used (come_to kept tree end folds (looks + r.looks))
+      some-ends q h at ds target pre rest s before kind =
+          let (ds', target', rest', g) = w at ds target pre rest s in rw q (by ds' g)
         where
           by : {target' : Tree} {rest' : List ℕ} (ds' : List Declarator) → Going table left tree.0 end folds looks at pre ds target ds' target' rest'
               → (rest'' : List ℕ) × Found table' records low at pre (searched before kind ds target) (come_to left tree end folds (looks + r.looks)) rest''
           by [] g = absurd (omega (arith, g.row.counted, l))
           by {rest' = rest'} (d ∷ ds') g = (rest', going-ends tree g (stepped d x (e ∙ first_record g.row) (first-stands g.row) t) h before kind)
 
-  pub some-none : {table₀ table : List ℕ} {many start used left : ℕ} (tree : NodeId) {end folds looks : ℕ} → SomeGoing table₀ table many start used left tree.0 end folds looks → (low < left → ⊥)
-      → SearchesFrom ctx literal_only table₀ table records starts low many start used (come_to left tree end folds looks)
-  some-none {table₀} {table} {left = left} tree {end} {folds} {looks} w l at ds target pre rest s before kind =
-      let (ds', target', rest', g) = w at ds target pre rest s in by ds' g
+  pub some-none : {table₀ table : List ℕ} {many start used left : ℕ} (tree : NodeId) {end folds looks : ℕ} → SomeGoing table₀ table many start used left tree.0 end folds looks → {kept : ℕ} → kept ≡ left → (low < left → ⊥)
+      → SearchesFrom ctx literal_only table₀ table records starts low many start used (come_to kept tree end folds looks)
+  some-none {table₀} {table} {left = left} tree {end} {folds} {looks} w q l at ds target pre rest s before kind =
+      let (ds', target', rest', g) = w at ds target pre rest s in rw q (by ds' g)
     where
       by : {target' : Tree} {rest' : List ℕ} (ds' : List Declarator) → Going table left tree.0 end folds looks at pre ds target ds' target' rest'
           → (rest'' : List ℕ) × Found table records low at pre (searched before kind ds target) (come_to left tree end folds looks) rest''

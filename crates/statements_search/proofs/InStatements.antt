@@ -6,6 +6,7 @@ use Prim.Native.Nat.{ℕ, ◌+◌, ◌*◌, ◌-◌, ◌/◌, ◌%◌, ◌≤◌
 use native.Mathlib.Omega.{arith}
 use lib.ListN.{length, length-append, length-reverse}
 use lib.Dec.{eqb}
+use Rattle.std.proofs.lemmas.List.{nil_from_length}
 use Rattle.records.specs.Record.{header_of, statement_at, statement_bytes}
 use Rattle.records.specs.Tree.{Tree}
 use Rattle.records.specs.File.{DeclarationKind, Var, Let, Const, Using, AwaitUsing, kind_number, Initializer, bare, given, Declarator, Statement, declaration, expression, other, declarators_in, statement_number, statement_record, read}
@@ -68,10 +69,6 @@ module _ (ctx : Context) (before : List Statement) (kind : DeclarationKind) (P :
 pub held-shorter : (records starts : List ℕ) (low at : ℕ) (d : Declarator) (ds : List Declarator) → Held records starts low at (d ∷ ds) → Held records starts low at ds
 unfolding Held
 held-shorter records starts low at d ds h = h.2
-
-no_length : (ds : List Declarator) → length ds ≡ 0 → ds ≡ []
-no_length [] e = refl
-no_length (d ∷ ds) e = absurd (omega arith)
 
 -- the names that were folded, and those that a search has folded behind them
 names_further : (records : List ℕ) (many folds : ℕ) (r : Searched) (trace rest : List Fold) → folded_names trace ≡ names_from records r.declarators_kept r.folds → many ≡ r.declarators_kept + r.folds
@@ -322,7 +319,7 @@ module _ (ctx : Context) {table table' records starts statements : List ℕ} {co
       let v = from_last ctx number kind ds ks target in
       let l : low ≡ many - length ds = e ∙ ap (λ (x : StatementRecord). many - x.declarators) d in
       let f = found number kind ds ks g.kept l in
-      let z : v.result.left ≡ [] = no_length v.result.left (omega (arith, f.1.many, n)) in
+      let z : v.result.left ≡ [] = nil_from_length v.result.left (omega (arith, f.1.many, n)) in
       let o = goes_on ctx number kind ds ks target (no_using kind ds d p) z in
       let t = (from_statements ctx ks v.result.target).trace in
       let m = (fewer g.kept (declared number kind ds ks d) e).1 in (
@@ -364,15 +361,12 @@ module _ (ctx : Context) {table table' records starts statements : List ℕ} {co
             (sym (sym (append-nil (names_from records r.declarators_kept (folds + r.folds))) ∙ listed)) (omega (arith, x.2, f.1.looks, g.looked)),
       )
 
--- The loop's invariant: the lengths, the room, the declarators that were folded, and where the loop is, for all statements
+-- The loop's invariant: the room, the declarators that were folded, and where the loop is, for all statements
 -- that it may have begun with.
 pub record Turn (ctx : Context) (table₀ table records starts statements₀ statements : List ℕ) (count many start used kept left begin end folds looks : ℕ) : Type 0 where
-  pub same_table : length table ≡ length table₀
-  pub same-statements : length statements ≡ length statements₀
   pub room : 16 * end + 16 * left ≤ length table
   pub few : end + left ≤ most_in_use
   pub folded : folds + left ≡ many
-  pub within : kept ≤ count
   pub goes : (ks : List Kept) (target : Tree) (rest : List ℕ) → KeepsBefore (tables table₀ records starts statements₀) count many start used ks target rest
       → (ks' : List Kept) × (target' : Tree) × (rest' : List ℕ)
       × Goes ctx table records starts statements kept left begin end folds looks (substitute_in_statement ctx ks target) ks' target' rest'
@@ -381,36 +375,36 @@ pub first-turn : {ctx : Context} {table records starts statements : List ℕ} {c
     → CanSearchStatements (tables table records starts statements) count many start used
     → Turn ctx table table records starts statements statements count many start used count many start used 0 0
 first-turn u c = record {
-  same_table = refl;
-  same-statements = refl;
   room = c.4;
   few = c.5;
   folded = omega arith;
-  within = omega arith;
   goes = λ ks target rest h. (ks, target, rest, begins u h);
 }
 
 module _ {ctx : Context} {table₀ table records starts statements₀ statements : List ℕ} {count many start used kept left : ℕ} (tree : NodeId) {end folds looks : ℕ}
     (i : Turn ctx table₀ table records starts statements₀ statements count many start used kept left tree.0 end folds looks) where
   -- no statement is left
-  pub at_first : kept ≤ 0
-      → SearchesStatements ctx (tables table₀ records starts statements₀) (tables table records starts statements) count many start used (come_to kept left tree end folds looks)
-  at_first n = λ ks target rest h. let g = i.goes ks target rest h in (g.2, ends-first tree g.0 g.3 n)
+  pub at_first : {number : ℕ} → number ≡ kept → kept ≤ 0
+      → SearchesStatements ctx (tables table₀ records starts statements₀) (tables table records starts statements) count many start used (come_to number left tree end folds looks)
+  at_first q n = rw q (λ ks target rest h. let g = i.goes ks target rest h in (g.2, ends-first tree g.0 g.3 n))
 
   module _ (s : StatementRecord) (s-is : s ≡ statement_at statements (4 * (kept - 1))) (some : 0 < kept) where
     -- the statement ends the search
-    pub at-end : 2 < s.kind
-        → SearchesStatements ctx (tables table₀ records starts statements₀) (tables table records starts statements) count many start used (come_to kept left tree end folds looks)
-    at-end n = λ ks target rest h. let g = i.goes ks target rest h in (g.2, ends_at tree g.0 g.3 s s-is some n)
+    pub at-end : {number : ℕ} → number ≡ kept → 2 < s.kind
+        → SearchesStatements ctx (tables table₀ records starts statements₀) (tables table records starts statements) count many start used (come_to number left tree end folds looks)
+    at-end q n = rw q (λ ks target rest h. let g = i.goes ks target rest h in (g.2, ends_at tree g.0 g.3 s s-is some n))
 
     -- it is a declaration
-    module _ (declaration : s.kind < 5) where
+    module _ (plain : s.kind ≤ 2) where
+      declares : s.kind < 5
+      declares = omega (arith, plain)
+
       module _ (c : CanSearchStatements (tables table₀ records starts statements₀) count many start used) where
         pub fewer-declared : s.declarators ≤ left
-        fewer-declared = let g = (i.goes c.0 c.1 c.2 c.3).3 in counted g.kept (last _ g.kept s s-is some declaration)
+        fewer-declared = let g = (i.goes c.0 c.1 c.2 c.3).3 in counted g.kept (last _ g.kept s s-is some declares)
 
         pub searchable : {low : ℕ} → low ≡ left - s.declarators → CanSearch table records starts low left tree.0 end
-        searchable e = let g = (i.goes c.0 c.1 c.2 c.3).3 in can_search g.kept (last _ g.kept s s-is some declaration) e i.room i.few
+        searchable e = let g = (i.goes c.0 c.1 c.2 c.3).3 in can_search g.kept (last _ g.kept s s-is some declares) e i.room i.few
 
       module _ {literal_only : Bool} {table' : List ℕ} {low : ℕ} {r : Searched} (literal-is : literal_only ≡ non_scoped_literal_only ctx) (low-is : low ≡ left - s.declarators)
           (searches : SearchesFrom ctx literal_only table table' records starts low left tree.0 end r) where
@@ -419,37 +413,34 @@ module _ {ctx : Context} {table₀ table records starts statements₀ statements
 
         pub found-fewer : CanSearchStatements (tables table₀ records starts statements₀) count many start used
             → (r.nodes_used + r.declarators_kept ≤ end + left) × (r.folds + r.declarators_kept ≡ left) × (low ≤ r.declarators_kept)
-        found-fewer c = let g = (i.goes c.0 c.1 c.2 c.3).3 in fewer ctx after g.kept (last _ g.kept s s-is some declaration) low-is
+        found-fewer c = let g = (i.goes c.0 c.1 c.2 c.3).3 in fewer ctx after g.kept (last _ g.kept s s-is some declares) low-is
 
-        pub looks-fit : CanSearchStatements (tables table₀ records starts statements₀) count many start used → s.kind ≤ 2 → looks + r.looks ≤ most_in_use * most_in_use
-        looks-fit (ks, target, rest, h, room, few) plain =
+        pub looks-fit : CanSearchStatements (tables table₀ records starts statements₀) count many start used → looks + r.looks ≤ most_in_use * most_in_use
+        looks-fit (ks, target, rest, h, room, few) =
             let g = (i.goes ks target rest h).3 in
             let n = h.kept.counted in
             omega
-            (arith, seen ctx after g (last _ g.kept s s-is some declaration) plain low-is, in_statement-looks ctx ks target (omega (arith, few, h.ends, n.nodes, n.declarators, kept-total ks)), declarators-total ks, n.declarators, few)
+            (arith, seen ctx after g (last _ g.kept s s-is some declares) plain low-is, in_statement-looks ctx ks target (omega (arith, few, h.ends, n.nodes, n.declarators, kept-total ks)), declarators-total ks, n.declarators, few)
 
         -- it is searched: all its declarators were folded
-        pub next-turn : CanSearchStatements (tables table₀ records starts statements₀) count many start used → s.kind ≤ 2 → length table' ≡ length table → r.declarators_kept ≤ low
+        pub next-turn : CanSearchStatements (tables table₀ records starts statements₀) count many start used → length table' ≡ length table → r.declarators_kept ≤ low
             → Turn ctx table₀ table' records starts statements₀ statements count many start used (kept - 1) r.declarators_kept r.tree.0 r.nodes_used (folds + r.folds) (looks + r.looks)
-        next-turn c plain l n =
+        next-turn c l n =
             let f = found-fewer c in
             record {
-              same_table = l ∙ i.same_table;
-              same-statements = i.same-statements;
               room = omega (arith, l, f.0, i.room);
               few = omega (arith, f.0, i.few);
               folded = omega (arith, f.1, i.folded);
-              within = omega (arith, i.within);
               goes = λ ks target rest h.
                   let g = i.goes ks target rest h in
-                  drops ctx after g.3 (last g.0 g.3.kept s s-is some declaration) plain low-is n;
+                  drops ctx after g.3 (last g.0 g.3.kept s s-is some declares) plain low-is n;
             }
 
         -- some were not
-        pub at-kept : {statements' : List ℕ} → s.kind ≤ 2 → low < r.declarators_kept
+        pub at-kept : {statements' : List ℕ} {number : ℕ} → number ≡ kept → low < r.declarators_kept
             → Overwrites statements statements' (4 * (kept - 1)) (statement_bytes (record { kind = s.kind; zero = 0; declarators = r.declarators_kept - low }))
-            → 4 * count ≤ length statements₀
-            → SearchesStatements ctx (tables table₀ records starts statements₀) (tables table' records starts statements') count many start used (come_to kept r.declarators_kept r.tree r.nodes_used (folds + r.folds) (looks + r.looks))
-        at-kept plain n o l = λ ks target rest h.
+            → 4 * kept ≤ length statements
+            → SearchesStatements ctx (tables table₀ records starts statements₀) (tables table' records starts statements') count many start used (come_to number r.declarators_kept r.tree r.nodes_used (folds + r.folds) (looks + r.looks))
+        at-kept q n o l = rw q (λ ks target rest h.
             let g = i.goes ks target rest h in
-            keeps ctx after (substitute_in_statement ctx ks target) g.3 (last g.0 g.3.kept s s-is some declaration) plain low-is n o (omega (arith, l, i.within, i.same-statements))
+            keeps ctx after (substitute_in_statement ctx ks target) g.3 (last g.0 g.3.kept s s-is some declares) plain low-is n o l)

@@ -27,6 +27,9 @@ use Rattle.walk_arms.specs.Described.{Describes}
 use Rattle.walk_arms.specs.Search.{bare_names, Searchable, Did, Searches}
 use Rattle.walk.proofs.Searching.{sought}
 use Rattle.walk_splice.specs.Splice.{Before, HoldsName, After, Splices}
+use Rattle.statements_declarator.specs.declared.declarator_parts.Initializer.TheVariants.{Given}
+use Rattle.statements_declarator.specs.Cases.{initializer_of}
+use Rattle.statements_declarator.proofs.Cases.{is-given}
 use Rattle.statements_search.proofs.BareNames.{Bare, bare-answer}
 use Rattle.statements_search.specs.declared.from_declarator.Tried.{Tried}
 use Rattle.statements_search.specs.Kept.{laid_initializer, node_count, bare_initializer}
@@ -203,9 +206,14 @@ module _ (ctx : Context) (literal_only : Bool) (table table' : List ℕ) (d : De
       let b : Bare (replaced t') = subst Bare i (bare-answer ctx s.name.0 t (bare-both x).0 target (bare-both x).1) in
       stepped-folded t t' pre rest rest' (try_from ctx literal_only d.name (given t) target) (searched-step t target (h pre t (laid target rest) (tree-at x)) l ∙ ap (by_answer target w.looks) i) u c b q m
 
--- the same at an equal place
-pub holds_at : {table : List ℕ} {target place used : ℕ} {a b : ℕ} → a ≡ b → HoldsName table b target place used → HoldsName table a target place used
-holds_at e h = rw e h
+-- Where the record has an initializer that begins at `at`: what the code may ask there, and that it has done the same at `from`.
+module _ (d : DeclaratorRecord) (from : NodeId) {at : NodeId} (g : initializer_of d from ≡ Given at) where
+  pub can_try_at : {table : List ℕ} {start used : ℕ} → CanTry table d from.0 start used → CanTry table d at.0 start used
+  can_try_at {table} {start} {used} c = subst (λ (k : NodeId). CanTry table d k.0 start used) (sym (is-given d from g).1) c
 
-pub splices_at : {table table' : List ℕ} {target place used left : ℕ} (indirect : Bool) {a b : ℕ} → a ≡ b → Splices table table' a target place used indirect left → Splices table table' b target place used indirect left
-splices_at indirect e h = rw e at h
+  pub can_at : {table : List ℕ} {start used : ℕ} → CanTry table d from.0 start used → Stands table at.0 × Searchable table start × (16 * used + 16 ≤ length table)
+  can_at {table} {start} {used} c = can_given table d at.0 start used (is-given d from g).0 (can_try_at c)
+
+  pub tried_at : (ctx : Context) (literal_only : Bool) {table table' : List ℕ} {start used : ℕ} {r : Tried}
+      → Tries ctx literal_only table table' d at.0 start used r → Tries ctx literal_only table table' d from.0 start used r
+  tried_at ctx literal_only {table} {table'} {start} {used} {r} t = subst (λ (k : NodeId). Tries ctx literal_only table table' d k.0 start used r) (is-given d from g).1 t

@@ -1,11 +1,11 @@
 // The search of a tree from one declarator (src/peephole/minimize_statements.rs 1220-1265).
 ghost use Rattle.std.specs.Prelude.{◌≡◌, true, false};
-ghost use Rattle.records.specs.File.{read, IsHeaderOf};
+ghost use Rattle.records.specs.File.{read};
 ghost use Rattle.walk_rules.specs.Context.{context_of};
 ghost use Rattle.statements_search.specs.FromDeclarators.{CanTry, Tries};
 
-use records::facts::facts_of;
-use records::layout::{DeclaratorRecord, Header, NodeId};
+use records::layout::{DeclaratorRecord, NodeId};
+use records::record_file::RecordFile;
 use records_table::work_node;
 use statements_declarator::declarator_parts::{
     Initializer, PlainName, ValueRecord, initializer_of, plain_name, value_record,
@@ -16,7 +16,8 @@ use walk::expression::substitute_single_use_symbol_in_expression;
 use walk_arms::walked::Answer;
 use walk_splice::splice;
 
-// Whether the initializer was placed; where the searched tree begins then, how many nodes are in use, and the looks.
+// Whether the initializer was placed; where the searched tree begins then, how many nodes are in use, and the looks. No Option:
+// clause `tried` gives `tree` and `nodes_used` where nothing was placed too.
 #[derive(Clone, Copy)]
 pub struct Tried {
     pub folded: bool,
@@ -51,8 +52,7 @@ fn folded(tree: NodeId, nodes_used: usize, looks: usize) -> Tried
 
 // The initializer, if there is one, begins at node `from`, the searched tree at `tree`; it is the last of the nodes in use.
 pub fn substitute_single_use_symbol_in_expression_from_declarator(
-    file: &[u8],
-    h: Header,
+    file: &RecordFile<'_>,
     nodes: &mut [u8],
     d: DeclaratorRecord,
     from: NodeId,
@@ -60,9 +60,8 @@ pub fn substitute_single_use_symbol_in_expression_from_declarator(
     nodes_used: usize,
     literal_only: bool,
 ) -> Tried
-    requires header { IsHeaderOf h file.now }
     requires tree { CanTry nodes.old d from.0 tree.0 nodes_used }
-    ensures tried { Tries (context_of (read file.now)) literal_only nodes.old nodes.new
+    ensures tried { Tries (context_of (read file.now.bytes.now)) literal_only nodes.old nodes.new
         d from.0 tree.0 nodes_used result }
 {
     let Initializer::Given(initializer) = initializer_of(d, from) else {
@@ -71,18 +70,17 @@ pub fn substitute_single_use_symbol_in_expression_from_declarator(
     let PlainName::Name(name) = plain_name(d) else {
         return kept(tree, nodes_used, 0);
     };
-    let n = facts_of(file, h.names, name);
+    let n = file.facts_of(name);
     let ValueRecord::Recorded(reads, writes) = value_record(n) else {
         return kept(tree, nodes_used, 0);
     };
     let root = work_node(nodes, initializer);
-    if ends_search(h, n, reads, writes, root, literal_only) {
+    if ends_search(file.header, n, reads, writes, root, literal_only) {
         return kept(tree, nodes_used, 0);
     }
     let replacement = describe(nodes, initializer, name);
     let w = substitute_single_use_symbol_in_expression(file, nodes, tree, replacement);
-    let answer = w.answer;
-    let Answer::Replaced(place, indirect) = answer else {
+    let Answer::Replaced(place, indirect) = w.answer else {
         return kept(tree, nodes_used, w.looks);
     };
     let left = splice(nodes, initializer, tree, place, nodes_used, indirect);

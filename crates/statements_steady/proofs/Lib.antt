@@ -1,4 +1,3 @@
 -- Laws of the repeat's code.
-pub mod Comparing
 pub mod Running
 pub mod Returning

@@ -2,14 +2,21 @@
 use Prim.Native.Nat.{ℕ, suc, ◌+◌, ◌-◌, ◌≤◌, ◌<◌}
 use native.Mathlib.Omega.{arith}
 use mathlib.Core.Bool.{Bool, true, false, cond}
-use mathlib.Core.List.{List, ◌++◌}
+use mathlib.Core.List.{List, [], ◌∷◌, ◌++◌}
 use mathlib.Core.Path.{◌≡◌, refl, sym, ap, ap₂, ◌∙◌, subst}
 use lib.ListN.{length, take, drop, length-append}
 use lib.Seq.{length-take-le, take-append_seam}
+use lib.Dec.{eqb}
+use lib.Pointwise.{pointwise}
 use borrow.Author.Tests.{ltb-false}
+use Rattle.std.specs.Prelude.{Ok, Err}
 use Rattle.records.specs.Record.{header_of}
 use Rattle.records.specs.Refusal.{refusal, room_wanted}
+use Rattle.records.specs.declared.layout.Header.{Header}
+use Rattle.records_refusal.specs.declared.outcome.Refusal.{Refusal}
+use Rattle.records_refusal.specs.Number.{row_number}
 use Rattle.records_refusal.specs.Passing.{HeaderPasses}
+use Rattle.records_refusal.proofs.Rows.{refuses}
 use Rattle.records_laws.proofs.Accepted.{accepted as rows-passed}
 use Rattle.statements_rules.specs.Fold.{Returned, fold_bytes}
 use Rattle.statements_rules.specs.Steady.{same_bytes, Repeated, at_rest, run_before, steady_bytes}
@@ -20,20 +27,33 @@ use Rattle.statements_fold.specs.Answer.{laid_into, laid_over}
 use Rattle.statements_fold.proofs.Core.{number_is, FoldsBytes}
 use Rattle.statements_fold.proofs.Returning.{header_limits}
 use Rattle.statements_steady.specs.declared.run.Run.{Run}
-use Rattle.statements_steady.specs.declared.SteadyAnswer.TheVariants.{Written}
 use Rattle.statements_steady.specs.Answer.{numbers, numbers_of}
-use Rattle.statements_steady.specs.Run.{run_of}
+use Rattle.statements_steady.specs.Run.{run_of, Runs}
 
--- the header of an accepted file passes
-pub accepted-passes : (bs : List ℕ) (room : ℕ) → refusal bs room ≡ 0 → HeaderPasses bs (header_of bs)
-accepted-passes bs room e =
-    let rows = rows-passed bs room e in
-    record { is = refl; script = rows.is_script; version = rows.version; limits = rows.limits; measured = rows.measured }
+-- the test of bytes is the library's
+same_is : (bs cs : List ℕ) → pointwise eqb bs cs ≡ same_bytes bs cs
+unfolding same_bytes
+same_is [] [] = refl
+same_is [] (c ∷ cs) = refl
+same_is (b ∷ bs) [] = refl
+same_is (b ∷ bs) (c ∷ cs) = rw (same_is bs cs) refl
 
 -- one run, by what the core did and the comparison of its result with the bytes
-pub run_is : {bs output output' : List ℕ} {room : ℕ} {r : Outcome} {steady : Bool} → FoldsBytes bs room output output' r → steady ≡ same_bytes (take r.length output') bs
-    → record { number = r.number; length = r.length; folds = r.folds; steady = steady } ≡ run_of bs room
-run_is w s = rw (s, w.result, w.number, w.measured, w.folds) refl
+pub run_refused : {bs output output' : List ℕ} {room : ℕ} (e : Refusal) → FoldsBytes bs room output output' (Err e) → Runs bs room (Err e)
+run_refused e w = w.number
+
+pub run_is : {bs output output' : List ℕ} {room : ℕ} {r : Outcome} {steady : Bool} → FoldsBytes bs room output output' (Ok r) → steady ≡ pointwise eqb (take r.length output') bs
+    → Runs bs room (Ok (record { length = r.length; folds = r.folds; steady = steady }))
+run_is {bs} {output' = output'} {r = r} w s =
+    (w.number, rw (s ∙ same_is (take r.length output') bs, w.result, w.measured, w.folds) refl)
+
+-- a run of accepted bytes isn't refused
+pub none-refused : {A : Type 0} (bs : List ℕ) {cs : List ℕ} (room : ℕ) (e : Refusal) → row_number e ≡ refusal bs room → bs ≡ cs → refusal cs room ≡ 0 → A
+none-refused bs room e q t z = absurd (omega (arith, q, ap (λ (x : List ℕ). refusal x room) t, z, refuses e))
+
+-- a header that passes is the bytes' own
+pub own-header : {bs : List ℕ} {h : Header} → HeaderPasses bs h → HeaderPasses bs (header_of bs)
+own-header {bs} p = subst (HeaderPasses bs) p.is p
 
 -- a repeat behind so many folds and runs
 abbrev after : ℕ → ℕ → Repeated → Repeated
@@ -116,10 +136,10 @@ copied next current l h e =
 
 module _ {file : List ℕ} {room : ℕ} where
   -- the first run
-  pub first_run : (current next : List ℕ) {next' : List ℕ} {r : Run} → r ≡ run_of file room → next' ≡ laid_over (fold_bytes file room) next → r.number ≡ 0
+  pub first_run : (current next : List ℕ) {next' : List ℕ} {r : Run} → (0 ≡ (fold_bytes file room).number) × (r ≡ run_of file room) → next' ≡ laid_over (fold_bytes file room) next
       → Looping file room current next' current next' r.length r.folds 1 r.steady
-  first_run current next {next' = next'} er en z =
-      let e : refusal file room ≡ 0 = sym (number_is file room) ∙ sym (ap (λ (x : Run). x.number) er) ∙ z in
+  first_run current next {next' = next'} (z, er) en =
+      let e : refusal file room ≡ 0 = sym (number_is file room) ∙ sym z in
       let (l, t) = laid-result file room next e en in
       let zero : 0 + (fold_bytes file room).folds ≡ (fold_bytes file room).folds = omega arith in
       let s = run_on file room (begins file room e) in
@@ -170,7 +190,7 @@ module _ {file : List ℕ} {room : ℕ} where
         pub folds-few : HeaderPasses file (header_of file) → folds + r.folds ≤ 500
         folds-few p =
             let x = (run_on file room going).taken in
-            let y = (header_limits file (header_of file) p).0 in
+            let y = (header_limits p).1 in
             let z = ap (λ (x : Run). x.folds) er' in
             omega (arith, x, y, z)
 
@@ -178,7 +198,7 @@ module _ {file : List ℕ} {room : ℕ} where
       runs-few p =
           let x = runs-left file room going in
           let y = runs-most file room h.file-accepted in
-          let z = (header_limits file (header_of file) p).0 in
+          let z = (header_limits p).1 in
           omega (arith, x, y, z)
 
       pub runs_fall : (steady_bytes file room).runs - (runs + 1) < (steady_bytes file room).runs - runs
@@ -186,7 +206,7 @@ module _ {file : List ℕ} {room : ℕ} where
 
     -- the last run is over
     pub all-run : steady ≡ true → (output : List ℕ) {output' : List ℕ} → output' ≡ take l next ++ drop (length (take l next)) output
-        → (numbers (Written l folds runs) ≡ numbers_of (steady_bytes file room)) × (output' ≡ laid_into (steady_bytes file room).result output)
+        → (numbers (Ok (record { length = l; folds = folds; runs = runs })) ≡ numbers_of (steady_bytes file room)) × (output' ≡ laid_into (steady_bytes file room).result output)
     unfolding at_rest
     all-run off output e =
         let done = subst (Repeating file room (take l next) folds runs) off h.state in

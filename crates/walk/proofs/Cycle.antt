@@ -9,7 +9,7 @@ use lib.Dec.{eqb}
 use borrow.Author.Tests.{eqb-true, not-true}
 use Rattle.records.specs.Tree.{Tree, Trees, node, none, more, count, size, sizes}
 use Rattle.records.specs.declared.layout.NodeId.{NodeId}
-use Rattle.records.proofs.Tests.{both, clash}
+use Rattle.records.proofs.Tests.{both}
 use Rattle.records_table.specs.Laid.{laid, laids, At, tree_at, forest_at}
 use Rattle.records_table.proofs.Laid.{room, first}
 use Rattle.records_table.proofs.TreesAt.{tree-there}
@@ -135,22 +135,18 @@ module _ (ctx : Context) (known : Replacement) (table table₁ : List ℕ) (at :
             let (held, x, k) = sought ctx known table₁ table₂ q.next.0 v g replacement d pre t (laids ts rest) (first h) in
             m replacement d pre t ts rest h c b held x k
 
-    pub list_replaced : (r : Walked) → is_replaced v.answer ≡ true → r ≡ record { answer = v.answer; end = v.end; looks = q.looks + v.looks } → SeeksForest ctx known table table₂ at.0 many p r
-    list_replaced r h e =
+    pub list_replaced : (r : Walked) (place : NodeId) (indirect : Bool) → v.answer ≡ Replaced place indirect → r ≡ record { answer = v.answer; end = v.end; looks = q.looks + v.looks } → SeeksForest ctx known table table₂ at.0 many p r
+    list_replaced r place indirect h e =
         rw e
         (tree-first (record { answer = v.answer; end = v.end; looks = q.looks + v.looks }) table₂ v.answer v.looks
-        (λ replacement d pre t ts rest j c b held x k. let (held', y, l) = forest_replaced ctx known.name.0 replacement q.plan n t ts x {last = v.end.0} h in (held', y, k ∙ l)) (behind-placed v.answer h) refl)
-      where
-        behind-placed : (w : Answer) → is_replaced w ≡ true → w ≡ behind q.effect w
-        behind-placed (Replaced place indirect) h = refl
-        behind-placed Stopped h = clash false refl h
-        behind-placed (Passed effect) h = clash false refl h
+        (λ replacement d pre t ts rest j c b held x k. let (held', y, l) = forest_replaced ctx known.name.0 replacement q.plan n t ts x {last = v.end.0} (ap is_replaced h) in (held', y, k ∙ l)) (h ∙ sym (ap (behind q.effect) h)) refl)
 
-    module _ (h : is_passed v.answer ≡ false) (g' : is_replaced v.answer ≡ false) where
-      stopped-is : (w : Answer) → is_passed w ≡ false → is_replaced w ≡ false → w ≡ Stopped
-      stopped-is (Replaced place indirect) h g = clash true g refl
-      stopped-is Stopped h g = refl
-      stopped-is (Passed effect) h g = clash true h refl
+    module _ (stopped : v.answer ≡ Stopped) where
+      h : is_passed v.answer ≡ false
+      h = ap is_passed stopped
+
+      g' : is_replaced v.answer ≡ false
+      g' = ap is_replaced stopped
 
       pub list_stopped : (r : Walked) (end : NodeId) (effect : Bool) → is_branches q.plan ≡ false → Passes table₂ v.end.0 (q.trees - 1) end.0 effect → r ≡ record { answer = Stopped; end = end; looks = q.looks + v.looks } → SeeksForest ctx known table table₂ at.0 many p r
       unfolding count
@@ -161,7 +157,7 @@ module _ (ctx : Context) (known : Replacement) (table table₁ : List ℕ) (at :
           let y = others-left ctx known.name.0 replacement q.plan n t ts x g' in
           let (end_is, acts) = w (pre ++ laid held []) ts rest y (omega (arith, c)) in
           let (held', u, l) = forest_stopped ctx known.name.0 replacement q.plan n t ts x h g' o end_is in (held', u, k ∙ l))
-          (ap (behind q.effect) (sym (stopped-is v.answer h g'))) refl)
+          (ap (behind q.effect) (sym stopped)) refl)
 
       pub list_branches : (r : Walked) (table₃ : List ℕ) (others : Walked) → is_branches q.plan ≡ true → SearchesForest ctx known table₂ table₃ v.end.0 (q.trees - 1) All others → r ≡ record { answer = either others.answer; end = others.end; looks = q.looks + v.looks + others.looks } → SeeksForest ctx known table table₃ at.0 many p r
       unfolding count

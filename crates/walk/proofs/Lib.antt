@@ -1,7 +1,6 @@
 -- Laws for the functions of the search.
 pub mod BareNames
 pub mod OtherAnswers
-pub mod ClearedFlags
 pub mod Putting
 pub mod OfForest
 pub mod OfNode

@@ -32,7 +32,7 @@ use Rattle.walk.proofs.OfForest.{ForestDid, passed_forest, passed-looks}
 use Rattle.walk.proofs.Searching.{behind-behind, behind_false, SeeksForest}
 
 -- a plan that enters each tree
-pub all-plan : (p : Plan) → is_all p ≡ true → (is_nothing p ≡ false) × (planned p ≡ next (planned p))
+all-plan : (p : Plan) → is_all p ≡ true → (is_nothing p ≡ false) × (planned p ≡ next (planned p))
 unfolding next
 all-plan All h = (refl, refl)
 all-plan First h = clash false refl h
@@ -122,7 +122,10 @@ module _ (ctx : Context) (known : Replacement) where
         (pre', rem, rest, l.here, l.many, omega (arith, l.looks, all-looks_most ctx known.name.0 replacement (planned r.plan) ts, room h))
 
   -- a small tree is passed
-  module _ (table : List ℕ) (r q : Forest) (f : GoesOn ctx known table table r q) (k : IsDescription known) (w : ForestStands table r.next.0 r.trees) (nodes : ℕ) (acts : Bool) (looks : ℕ) (t : PassesTree ctx known table q.next.0 nodes acts looks) (n : is_nothing q.plan ≡ false) where
+  module _ (table : List ℕ) (r q : Forest) (f : GoesOn ctx known table table r q) (k : IsDescription known) (w : ForestStands table r.next.0 r.trees) (nodes : ℕ) (acts : Bool) (looks : ℕ) (t : PassesTree ctx known table q.next.0 nodes acts looks) (a : is_all q.plan ≡ true) where
+    n : is_nothing q.plan ≡ false
+    n = (all-plan q.plan a).0
+
     small-looks : {pre rest : List ℕ} (replacement : Tree) → Describes known replacement → (rem : Trees) → At table q.next.0 rem pre rest → 0 < count rem → looks ≤ looks_in_children ctx known.name.0 replacement (planned q.plan) rem
     unfolding count
     small-looks replacement d none h c = absurd (omega (arith, c))
@@ -147,8 +150,8 @@ module _ (ctx : Context) (known : Replacement) where
         let e : q'.next.0 ≡ q.next.0 + size u = x ∙ ap (λ k. q.next.0 + k) z in
         (o, a, y ∙ ap (λ k. q.looks + k) l, subst (λ k. At table k us (pre ++ laid u []) rest) (sym e) (beyond h), e)
 
-    pub small-passed : (q' : Forest) → planned q'.plan ≡ next (planned q.plan) → q'.trees + 1 ≡ q.trees → q'.next.0 ≡ q.next.0 + nodes → q'.effect ≡ (q.effect || acts) → q'.looks ≡ q.looks + looks → GoesOn ctx known table table r q'
-    small-passed q' p m x e y = goes_further table table table r q q' f (goes-next table table q q' acts n p m e (passes-next q' x y))
+    pub small-passed : (q' : Forest) → q'.plan ≡ q.plan → q'.trees + 1 ≡ q.trees → q'.next.0 ≡ q.next.0 + nodes → q'.effect ≡ (q.effect || acts) → q'.looks ≡ q.looks + looks → GoesOn ctx known table table r q'
+    small-passed q' p m x e y = goes_further table table table r q q' f (goes-next table table q q' acts n (ap planned p ∙ (all-plan q.plan a).1) m e (passes-next q' x y))
 
   -- What the search of the trees that are left did is what it did of the forest.
   pub finished : (table table₁ table' : List ℕ) (at many : ℕ) (p : Plan) (r₀ q : Forest) (r : Walked) (w : Answer) (looks : ℕ) → r₀.next.0 ≡ at → r₀.trees ≡ many → r₀.plan ≡ p → r₀.effect ≡ false → r₀.looks ≡ 0 → GoesOn ctx known table table₁ r₀ q

@@ -16,7 +16,7 @@ use Rattle.records.specs.declared.layout.NodeId.{NodeId}
 use Rattle.records.specs.declared.layout.NodeRecord.{NodeRecord}
 use Rattle.records.proofs.Tests.{both, and_left, clash}
 use Rattle.records_table.specs.Table.{work_bytes}
-use Rattle.records_table.specs.Laid.{laid, laids, At, TreeAt, Stands, ForestStands, tree_at, forest_at}
+use Rattle.records_table.specs.Laid.{laid, laids, At, TreeAt, ForestStands, tree_at, forest_at}
 use Rattle.records_laws.proofs.Forests.{sizes-joined}
 use Rattle.records_table.proofs.Laid.{room-node, inside, node_at_lem, laid_split, beyond, back}
 use Rattle.records_table.proofs.TreesAt.{tree-there, forest_there}
@@ -49,9 +49,6 @@ bare-joined none us h = h
 bare-joined (more t ts) us h = bare-joined ts us (all-bare t (joined ts us) h).1
 
 -- What the code may ask of a searchable tree and forest.
-pub searchable-stands : {table : List ℕ} {at : ℕ} → Searchable table at → Stands table at
-searchable-stands (pre, t, rest, h, b) = (pre, t, rest, h)
-
 pub searchable-room : {table : List ℕ} {at : ℕ} → Searchable table at → 16 * at + 16 ≤ length table
 searchable-room (pre, t, rest, h, b) = room-node h
 

@@ -4,12 +4,13 @@ use native.Mathlib.Omega.{arith}
 use mathlib.Core.Bool.{Bool, true, false, ◌||◌, or-false, and-false}
 use mathlib.Core.List.{List}
 use mathlib.Core.Path.{◌≡◌, refl, sym, ap, ◌∙◌}
+use Rattle.std.specs.Int.{from_bool}
 use lib.Dec.{eqb}
 use lib.ListN.{length}
 use borrow.Author.Tests.{eqb-true}
 use Rattle.records.specs.Record.{node_at}
 use Rattle.records.specs.Tree.{Node, Tree, Trees, node, none, more, count, size, sizes, record_of, node_of}
-use Rattle.records.specs.File.{first_tree, one}
+use Rattle.records.specs.File.{first_tree}
 use Rattle.records.specs.Place.{root}
 use Rattle.records.specs.declared.layout.NodeRecord.{NodeRecord}
 use Rattle.records_table.specs.Laid.{At, TreeAt, Stands}
@@ -119,17 +120,17 @@ module _ (ctx : Context) (known : Replacement) (table : List ℕ) (at : ℕ) (ef
       rw (z, node_of_record n e t) (v.over-passed replacement d, refl, f ∙ over-effect (node_of n) (node_of leaf), l ∙ sym (v.over-looked replacement d))
 
 -- the code's reads: the leaf is the node itself or its only child
-pub leaf_room : (table : List ℕ) (at : ℕ) (over : Bool) → over ≡ eqb (node_at table (16 * at)).children 1 → Stands table at → 16 * (at + one over) + 16 ≤ length table
+pub leaf_room : (table : List ℕ) (at k : ℕ) (over : Bool) → over ≡ eqb (node_at table (16 * at)).children 1 → k ≡ from_bool over → Stands table at → 16 * (at + k) + 16 ≤ length table
 unfolding count
-leaf_room table at false e (pre, t, rest, h) = omega (arith, room-node h)
-leaf_room table at true e (pre, node m none, rest, h) = let c = count_of_record (node_at table (16 * at)) refl h in let d = eqb-true (node_at table (16 * at)).children 1 (sym e) in absurd (omega (arith, c, d))
-leaf_room table at true e (pre, node m (more (node x xs) ts), rest, h) = omega (arith, room-node (inside h))
+leaf_room table at k false e z (pre, t, rest, h) = omega (arith, room-node h)
+leaf_room table at k true e z (pre, node m none, rest, h) = let c = count_of_record (node_at table (16 * at)) refl h in let d = eqb-true (node_at table (16 * at)).children 1 (sym e) in absurd (omega (arith, c, d))
+leaf_room table at k true e z (pre, node m (more (node x xs) ts), rest, h) = omega (arith, room-node (inside h))
 
-pub leaf-at : (table : List ℕ) (at k : ℕ) (over : Bool) → over ≡ false → k ≡ one over → {n : NodeRecord} → n ≡ node_at table (16 * (at + k)) → n ≡ node_at table (16 * at)
-leaf-at table at k over o e h = h ∙ ap (λ k. node_at table (16 * k)) (ap (λ k. at + k) (e ∙ ap one o) ∙ omega arith)
+pub leaf-at : (table : List ℕ) (at k : ℕ) (over : Bool) → over ≡ false → k ≡ from_bool over → {n : NodeRecord} → n ≡ node_at table (16 * (at + k)) → n ≡ node_at table (16 * at)
+leaf-at table at k over o e h = h ∙ ap (λ k. node_at table (16 * k)) (ap (λ k. at + k) (e ∙ ap from_bool o) ∙ omega arith)
 
-pub leaf-below : (table : List ℕ) (at k : ℕ) (over : Bool) → over ≡ true → k ≡ one over → {n : NodeRecord} → n ≡ node_at table (16 * (at + k)) → n ≡ node_at table (16 * (at + 1))
-leaf-below table at k over o e h = h ∙ ap (λ k. node_at table (16 * (at + k))) (e ∙ ap one o)
+pub leaf-below : (table : List ℕ) (at k : ℕ) (over : Bool) → over ≡ true → k ≡ from_bool over → {n : NodeRecord} → n ≡ node_at table (16 * (at + k)) → n ≡ node_at table (16 * (at + 1))
+leaf-below table at k over o e h = h ∙ ap (λ k. node_at table (16 * (at + k))) (e ∙ ap from_bool o)
 
 pub one_child : (table : List ℕ) (at : ℕ) (over : Bool) → over ≡ eqb (node_at table (16 * at)).children 1 → over ≡ true → {n : NodeRecord} → n ≡ node_at table (16 * at) → n.children ≡ 1
 one_child table at over e o h = ap (λ n. n.children) h ∙ eqb-true (node_at table (16 * at)).children 1 (sym e ∙ o)

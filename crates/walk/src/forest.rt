@@ -16,24 +16,25 @@ pub struct Forest {
     pub looks: usize, // so far
 }
 
-// The trees behind the first, which ends before `end` and was passed; with it there were so many looks.
-pub(crate) fn forest_behind(forest: Forest, end: NodeId, effect: bool, looks: usize) -> Forest
-    requires first { 0 < forest.trees }
-    ensures plan { planned result.plan ≡ nextPlan (planned forest.plan) }
-    ensures result { result ≡ record {
-      next = end;
-      trees = forest.trees - 1;
-      plan = result.plan;
-      effect = forest.effect || effect;
-      looks = looks;
-    } }
-{
-    let plan = forest.plan;
-    Forest {
-        next: end,
-        trees: forest.trees - 1,
-        plan: next_plan(plan),
-        effect: forest.effect | effect,
-        looks,
+impl Forest {
+    // The trees behind the first, which ends before `end` and was passed; with it there were so many looks.
+    pub(crate) fn behind(self, end: NodeId, effect: bool, looks: usize) -> Forest
+        requires first { 0 < self.trees }
+        ensures plan { planned result.plan ≡ nextPlan (planned self.plan) }
+        ensures result { result ≡ record {
+          next = end;
+          trees = self.trees - 1;
+          plan = result.plan;
+          effect = self.effect || effect;
+          looks = looks;
+        } }
+    {
+        Forest {
+            next: end,
+            trees: self.trees - 1,
+            plan: next_plan(self.plan),
+            effect: self.effect | effect,
+            looks,
+        }
     }
 }

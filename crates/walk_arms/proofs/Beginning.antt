@@ -1,5 +1,5 @@
 -- Where the search of a node's children begins: the code's tests and the rules'. Assumes nothing.
-use Prim.Native.Nat.{ℕ, zero, suc, ◌+◌, ◌-◌, ◌*◌, ◌≤◌}
+use Prim.Native.Nat.{ℕ, suc, ◌+◌, ◌-◌, ◌*◌}
 use native.Mathlib.Omega.{arith}
 use mathlib.Core.Bool.{Bool, true, false, cond, not, or-false}
 use mathlib.Core.List.{List}
@@ -158,10 +158,6 @@ module _ (ctx : Context) (R : Tree) (m : Node) (c : Bool) (sm : shape m ≡ assi
 -- how many targets there are
 one_of : (k many : ℕ) → many ≡ one (not (eqb k 0)) → (i : ℕ) → k ≡ suc i → many ≡ 1
 one_of k many o i e = o ∙ rw (ne_eqb k 0 (λ z. omega (arith, z, e))) refl
-
-pub first_of_many : (k : ℕ) {many size : ℕ} → many ≡ one (not (eqb k 0)) → size ≡ k → many ≤ size
-first_of_many zero o z = omega (arith, o)
-first_of_many (suc k) {many} o z = omega (arith, one_of (suc k) many o k refl, z)
 
 -- The search of an assignment begins behind its target.
 module _ (ctx : Context) {table : List ℕ} {at : ℕ} {n : NodeRecord} (e : n ≡ node_at table (16 * at)) {known : Replacement} {g : Begun} (sh : shaped g.shape ≡ shape (node_of n)) (a : is_assignment g.shape ≡ true) {many : ℕ} (o : many ≡ one (not (eqb n.children 0))) (p : Passes table (at + 1) many g.next.0 g.effect) (c : Bool) (k : c ≡ is_compound_assignment g.shape) (w : StopsAt ctx table (at + 1) many known c g.effect g.stops) (b : planned g.plan ≡ plan_of_value g.stops) (l : g.trees ≡ n.children - many) (i : g.indirect ≡ false) where

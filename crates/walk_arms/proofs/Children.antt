@@ -1,10 +1,11 @@
 -- The first children of a node of the work table. Assumes nothing.
 use Prim.Native.Nat.{ℕ, zero, suc, ◌+◌, ◌*◌, ◌≤◌, ◌<◌}
 use native.Mathlib.Omega.{arith}
-use mathlib.Core.Bool.{Bool, not}
+use mathlib.Core.Bool.{Bool, true, false, not}
 use mathlib.Core.List.{List, ◌++◌}
 use mathlib.Core.Path.{◌≡◌, refl, sym}
 use lib.Dec.{eqb}
+use mir.Val.{bool_byte}
 use borrow.Author.Tests.{ne_eqb}
 use lib.ListN.{length}
 use Rattle.records.specs.Record.{node_at}
@@ -49,6 +50,11 @@ first-stands some s = first_of some s.1 s.3 s.4
 pub alone-stands : {table : List ℕ} {at : ℕ} → Stands table at → ForestStands table at 1
 unfolding count
 alone-stands s = (s.0, more s.1 none, s.2, s.3, refl)
+
+-- a test as a number, as the library has it
+pub one-is : (b : Bool) → bool_byte b ≡ one b
+one-is true = refl
+one-is false = refl
 
 -- the first tree of a forest, if there is one, as a forest
 pub head_stands : {table : List ℕ} {at : ℕ} (k : ℕ) → ForestStands table at k → ForestStands table at (one (not (eqb k 0)))

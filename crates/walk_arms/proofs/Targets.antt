@@ -1,7 +1,7 @@
 -- An assignment's target: the code's tests and the rules'. Assumes nothing.
 use Prim.Native.Nat.{ℕ, ◌*◌, ◌<◌}
 use native.Mathlib.Omega.{arith}
-use mathlib.Core.Bool.{Bool, true, false, ◌&&◌, ◌||◌}
+use mathlib.Core.Bool.{Bool, true, false, ◌||◌}
 use mathlib.Core.List.{List}
 use mathlib.Core.Path.{◌≡◌, refl, ◌∙◌}
 use lib.Dec.{eqb}
@@ -38,10 +38,10 @@ module _ (ctx : Context) {table : List ℕ} {at : ℕ} {n : NodeRecord} (e : n �
 
   -- a computed member: by its object, then by its key
   module _ (no_name : eqb n.kind 29 ≡ false) (k : eqb n.kind 12 ≡ true) (object : NodeRecord) (o : FirstChild table at object) {r : Bool} (a : r ≡ member_part_blocks_reorder ctx (node (node_of object) none)) where
-    pub depends_object : r ≡ true → DependsOnSideEffect ctx table at true
+    pub depends_object : r ≡ true → DependsOnSideEffect ctx table at r
     unfolding may_depend_on_side_effect node_of
     depends_object b pre (node m kids) rest h =
-        rw (node-is e h, no_name, k, ← object-root ctx object (first_tree kids) (o pre m kids rest h), ← a, b) refl
+        b ∙ rw (node-is e h, no_name, k, ← object-root ctx object (first_tree kids) (o pre m kids rest h), ← a, b) refl
 
     pub depends_key : r ≡ false → (key : NodeRecord) → SecondChild table at key → {q : Bool} → q ≡ computed_key_blocks_reorder ctx (node (node_of key) none)
         → DependsOnSideEffect ctx table at q
@@ -59,25 +59,9 @@ module _ (ctx : Context) {table : List ℕ} {at : ℕ} {n : NodeRecord} (e : n �
   unfolding may_depend_on_side_effect node_of
   depends_other no_name no-computed no_member pre (node m kids) rest h = rw (node-is e h, no_name, no-computed, no_member) refl
 
--- The three tests, in the code's order.
+-- The last of the three tests.
 module _ (ctx : Context) {table : List ℕ} {at many : ℕ} {known : Replacement} (isCompound : Bool) {effect : Bool} where
-  pub stops-effect : effect ≡ true → StopsAt ctx table at many known isCompound effect true
-  unfolding stops_at_target
-  stops-effect e R d pre ts rest h c f = rw (← f, e) refl
-
-  pub stops-compound : effect ≡ false → known.effect ≡ true → isCompound ≡ true → StopsAt ctx table at many known isCompound effect true
-  unfolding stops_at_target
-  stops-compound e a k R d pre ts rest h c f = rw (← f, e, ← d.effect, a, k) refl
-
-  pub stops_not : effect ≡ false → known.effect ≡ false → StopsAt ctx table at many known isCompound effect false
-  unfolding stops_at_target
-  stops_not e a R d pre ts rest h c f = rw (← f, e, ← d.effect, a) (none_of isCompound)
-    where
-      none_of : (b : Bool) → false ≡ (b && false || false)
-      none_of true = refl
-      none_of false = refl
-
-  -- the last one, where there is a target, and where there is none
+  -- where there is a target, and where there is none
   pub stops_depends : effect ≡ false → known.effect ≡ true → isCompound ≡ false → 0 < many → {r : Bool} → DependsOnSideEffect ctx table at r
       → StopsAt ctx table at many known isCompound effect r
   unfolding stops_at_target count first_tree

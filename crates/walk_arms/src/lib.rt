@@ -2,6 +2,6 @@
 #![tactic(auto)]
 
 pub mod arms;
-pub mod child;
+pub mod node;
 pub mod replacement;
 pub mod walked;

@@ -1,7 +1,7 @@
 // What a search of trees says: the `Option<bool>` of `substitute_single_use_symbol_in_expression`
 // (src/peephole/minimize_statements.rs 1272-1274), and where it is replaced.
 ghost use Rattle.std.specs.Prelude.{◌≡◌};
-ghost use Rattle.walk_arms.specs.Answers.{is_replaced, either as either_of};
+ghost use Rattle.walk_arms.specs.Answers.{either as either_of};
 ghost use Rattle.walk_arms.specs.declared.walked.Answer.TheVariants.{Replaced, Stopped, Passed};
 
 use records::layout::NodeId;
@@ -21,16 +21,6 @@ pub struct Walked {
     pub answer: Answer,
     pub end: NodeId,
     pub looks: usize,
-}
-
-pub fn is_replaced(a: Answer) -> bool
-    ensures result { result ≡ is_replaced a }
-{
-    match a {
-        Answer::Replaced(_, _) => true,
-        Answer::Stopped => false,
-        Answer::Passed(_) => false,
-    }
 }
 
 // The name stands at `at`.
@@ -67,13 +57,13 @@ pub fn passed(end: NodeId, effect: bool, looks: usize) -> Walked
 }
 
 // Where the search ended in one branch of a ConditionalExpression (1542-1549): what it says of both, by what it says of the
-// other.
+// other. `Replaced` is made anew, since a copy of the enum takes its unused bytes along (docs/BENCHMARKS.md, under "An answer is
+// made anew by its cases").
 pub fn either(other: Answer) -> Answer
     ensures result { result ≡ either_of other }
 {
     match other {
         Answer::Replaced(place, indirect) => Answer::Replaced(place, indirect),
-        Answer::Stopped => Answer::Stopped,
-        Answer::Passed(_) => Answer::Stopped,
+        Answer::Stopped | Answer::Passed(_) => Answer::Stopped,
     }
 }

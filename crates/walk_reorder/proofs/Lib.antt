@@ -1,4 +1,3 @@
--- The laws that the proofs of several functions cite: unsettled names, effects.
-pub mod Climbing
+-- The laws that the proofs of several functions cite: effects, forests that are passed.
 pub mod Effects
 pub mod Passing

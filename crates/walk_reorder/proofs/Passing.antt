@@ -9,7 +9,7 @@ use Rattle.records.specs.Record.{node_at}
 use Rattle.records.specs.Tree.{Tree, Trees, node, none, more, count, size, sizes, joined, record_of, node_of}
 use Rattle.records.specs.declared.layout.NodeRecord.{NodeRecord}
 use Rattle.records_laws.proofs.Forests.{count-joined, sizes-joined, count-sizes}
-use Rattle.records_table.specs.Laid.{At, TreeAt}
+use Rattle.records_table.specs.Laid.{At, TreeAt, ForestStands, Stands}
 use Rattle.records_table.proofs.Laid.{room, first, node_at_lem, down}
 use Rattle.walk_rules.specs.Effect.{has_effect, may_have_side_effects, any_has_side_effects}
 use Rattle.walk_reorder.specs.Passes.{Passes}
@@ -30,14 +30,18 @@ abbrev pub Passing : List ℕ → ℕ → ℕ → ℕ → ℕ → Bool → Type 
 Passing table at many next pending effect =
     (pre : List ℕ) (ts : Trees) (rest : List ℕ) → At table at ts pre rest → count ts ≡ many → SomeLeft table at ts rest next pending effect
 
--- at first it is the whole forest
-pub passing-none : {table : List ℕ} {at many : ℕ} → Passing table at many at many false
-passing-none pre ts rest here due = (pre, ts, record { here = here; due = due; whole = refl; acts = refl })
-
 -- every tree that is due has a node inside the table
-pub pending_fits : {table : List ℕ} {at : ℕ} {ts : Trees} {rest pre : List ℕ} {next pending : ℕ} {effect : Bool} {left : Trees}
+pending_fits : {table : List ℕ} {at : ℕ} {ts : Trees} {rest pre : List ℕ} {next pending : ℕ} {effect : Bool} {left : Trees}
     → Left table at ts rest next pending effect pre left → 16 * next + 16 * pending ≤ length table
 pending_fits {left = left} l = omega (arith, room l.here, count-sizes left, l.due)
+
+-- so the trees that are due of a forest that stands there fit in the table; of a tree
+pub forest_fits : {table : List ℕ} {at many next pending : ℕ} {effect : Bool} → ForestStands table at many → Passing table at many next pending effect → 16 * next + 16 * pending ≤ length table
+forest_fits s p = pending_fits (p s.0 s.1 s.2 s.3 s.4).2
+
+pub tree_fits : {table : List ℕ} {at next pending : ℕ} {effect : Bool} → Stands table at → Passing table at 1 next pending effect → 16 * next + 16 * pending ≤ length table
+unfolding count
+tree_fits s p = pending_fits (p s.0 (more s.1 none) s.2 s.3 refl).2
 
 -- one node more: its children are due in its place
 pub passing-more : {table : List ℕ} {at : ℕ} {ts : Trees} {rest pre : List ℕ} {next pending : ℕ} {effect : Bool} (left : Trees)

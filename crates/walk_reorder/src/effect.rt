@@ -6,21 +6,16 @@ ghost use Rattle.records_table.specs.Laid.{TreeAt, Stands, ForestStands};
 ghost use Rattle.walk_rules.specs.Effect.{has_effect, may_have_side_effects};
 ghost use Rattle.walk_reorder.specs.Passes.{Passes};
 
-use records::flags::is_marked;
 use records::kinds::{ASSIGNMENT, AWAIT, IMPORT, YIELD};
 use records::layout::{NodeId, NodeRecord};
-use records::number::size;
 use records_table::work_node;
 
 // Whether a node has an effect of its own.
+#[tactic(auto, unfolding(walk_rules::specs::Effect::has_effect, records::specs::Tree::node_of))]
 pub fn has_effect(n: NodeRecord) -> bool
     ensures result { result ≡ has_effect (node_of n) }
 {
-    is_marked(n)
-        | (n.kind == AWAIT)
-        | (n.kind == YIELD)
-        | (n.kind == IMPORT)
-        | (n.kind == ASSIGNMENT)
+    n.is_marked() | matches!(n.kind, AWAIT | YIELD | IMPORT | ASSIGNMENT)
 }
 
 // Trees that are passed: the node behind them, and whether one of them has an effect.
@@ -30,7 +25,8 @@ pub struct PassedForest {
     pub effect: bool,
 }
 
-// Passes `many` trees from `at` on. `pending` trees begin at `next`; a node's children take its place among them.
+// Passes `many` trees from `at` on. `pending` trees begin at `next`; a node's children take its place among them, so how many
+// nodes there are shows only at the end.
 pub fn pass_forest(nodes: &[u8], at: NodeId, many: usize) -> PassedForest
     requires trees { ForestStands nodes.now at.0 many }
     ensures result { Passes nodes.now at.0 many result.next.0 result.effect }
@@ -40,8 +36,8 @@ pub fn pass_forest(nodes: &[u8], at: NodeId, many: usize) -> PassedForest
     let mut effect = false;
     while 0 < pending {
         let n = work_node(nodes, next);
-        effect = effect | has_effect(n);
-        pending = pending - 1 + size(n.children); // in the node's place
+        effect |= has_effect(n);
+        pending = pending - 1 + usize::from(n.children); // in the node's place
         next = NodeId(next.0 + 1);
     }
     PassedForest { next, effect }
@@ -60,7 +56,7 @@ pub fn may_have_side_effects(nodes: &[u8], at: NodeId) -> bool
         if has_effect(n) {
             return true;
         }
-        pending = pending - 1 + size(n.children);
+        pending = pending - 1 + usize::from(n.children);
         next = NodeId(next.0 + 1);
     }
     false

@@ -18,10 +18,8 @@ use Rattle.walk_rules.specs.Substitute.{at, preserve_indirect_access}
 use Rattle.walk_rules.proofs.Sizes.{size-at}
 use Rattle.records_table.specs.Overwrites.{Overwrites}
 use Rattle.walk_splice.specs.Blocks.{Exchanges, sequence_record, literal_record, PreservesIndirectAccess}
-use Rattle.walk_splice.specs.Copies.{Copies}
 use Rattle.walk_arms.specs.Answers.{in_place}
 use Rattle.walk_splice.specs.Splice.{Before, After}
-use Rattle.walk_splice.proofs.Rotation.{Blocks, shifted_down}
 
 size_indirect : (t : Tree) → size (preserve_indirect_access t) ≡ size t + 2
 unfolding preserve_indirect_access size sizes
@@ -99,21 +97,17 @@ module _ {b0 : List ℕ} {from target place used : ℕ} {t : Tree} {name : NodeR
         let written : b1 ≡ pre ++ laid root-set (between ++ tail) = laid-at pre (between ++ tail) name.position (16 * from) t h.is h.starts (rw ep at o) in
         x pre (laid root-set []) between tail (written ∙ rw (laid_split root-set (between ++ tail))) h.starts (omega (arith, root_set-length, h.searched)) h.found
 
-    -- then what is behind the name moves over its record
-    pub spliced : {b3 : List ℕ} {indirect : Bool} (from' n : ℕ) → from' ≡ 16 * place + 16 → n ≡ 16 * used - from' → indirect ≡ false → Copies b2 b3 (16 * place) from' n
-        → After b3 (used - 1) (in_place indirect t (node_of name)) pre between after (drop (16 * place + n) b2)
+    -- then what is behind the name changes places with its record
+    pub spliced : {b3 : List ℕ} {indirect : Bool} (after' : ℕ) → after' ≡ 16 * place + 16 → indirect ≡ false → Exchanges b2 b3 (16 * place) after' (16 * used)
+        → After b3 (used - 1) (in_place indirect t (node_of name)) pre between after (work_bytes name ++ rest)
     unfolding node_of tail root-set
-    spliced {b3} from' n ef en e k =
+    spliced after' ea e k =
         let front = pre ++ (between ++ laid root-set []) in
-        let b : Blocks b2 (16 * place) from' (16 * used) front (work_bytes name) after rest
-        = record {
-          is = moved ∙ simp append_assoc;
-          starts = omega (arith, h.starts, h.searched, h.found, root_set-length, length-append pre (between ++ laid root-set []), length-append between (laid root-set []));
-          seam = omega (arith, work_length name);
-          ends = omega (arith, h.ends);
-        } in
         rw e (record {
-          is = shifted_down b b3 n en k ∙ rw (laid_split root-set (after ++ drop (16 * place + n) b2)) (simp append_assoc);
+          is = k front (work_bytes name) after rest (moved ∙ simp append_assoc)
+              (omega (arith, h.starts, h.searched, h.found, root_set-length, length-append pre (between ++ laid root-set []), length-append between (laid root-set [])))
+              (omega (arith, work_length name)) (omega (arith, h.ends))
+              ∙ rw (laid_split root-set (after ++ (work_bytes name ++ rest))) (simp append_assoc);
           ends = omega (arith, h.starts, h.searched, h.found, h.ends, placed-size false t (node_of name));
         })
 

@@ -6,7 +6,7 @@ ghost use Rattle.records_table.specs.Table.{work_bytes};
 ghost use Rattle.records_table.specs.Overwrites.{Overwrites};
 ghost use Rattle.walk_splice.specs.Blocks.{PreservesIndirectAccess};
 
-use crate::shift::move_up;
+use crate::rotate::rotate;
 use records::kinds::{LITERAL, SEQUENCE};
 use records::layout::{NodeId, NodeRecord};
 use records::limits::NO_NUMBER;
@@ -43,9 +43,8 @@ pub(crate) fn preserve_indirect_access(
     ensures wrapped { PreservesIndirectAccess nodes.old nodes.new (16 * tag.0) (16 * name.0)
         (16 * end.0) position }
 {
-    let after = NodeId(name.0 + 1);
-    move_up(nodes, NodeId(after.0 + 1), after, end.0 - after.0);
-    move_up(nodes, NodeId(tag.0 + 2), tag, name.0 - tag.0);
+    rotate(nodes, name, end, NodeId(end.0 + 1));
+    rotate(nodes, tag, name, NodeId(name.0 + 2));
     let sequence = NodeRecord {
         kind: SEQUENCE,
         flags: 0,

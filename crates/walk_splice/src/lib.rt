@@ -5,14 +5,12 @@
 
 mod blocks;
 mod rotate;
-mod shift;
 
 ghost use Rattle.std.specs.Prelude.{true, ◌≡◌, ◌+◌, ◌*◌, ◌≤◌, length};
 ghost use Rattle.walk_splice.specs.Splice.{HoldsName, Splices};
 
 use crate::blocks::{preserve_indirect_access, put_position};
 use crate::rotate::rotate;
-use crate::shift::move_down;
 use records::layout::NodeId;
 use records_table::work_node;
 
@@ -32,8 +30,7 @@ pub fn splice(
         nodes_used indirect result }
     ensures length { length nodes.new ≡ length nodes.old }
 {
-    let name = work_node(nodes, place);
-    let position = name.position;
+    let position = work_node(nodes, place).position;
     put_position(nodes, replacement, position);
     rotate(nodes, replacement, target, place);
     if indirect {
@@ -41,7 +38,6 @@ pub fn splice(
         preserve_indirect_access(nodes, tag, place, NodeId(nodes_used), position);
         return nodes_used + 1;
     }
-    let after = NodeId(place.0 + 1);
-    move_down(nodes, place, after, nodes_used - after.0);
+    rotate(nodes, place, NodeId(place.0 + 1), NodeId(nodes_used)); // the name's record is the last one then
     nodes_used - 1
 }

@@ -1,3 +1,3 @@
--- The laws that the proofs of several functions cite: the search of frames, the file's length.
+-- The laws that the proofs of several functions cite: the search of frames, the records of bytes.
 pub mod Searching
-pub mod Known
+pub mod LastRecord

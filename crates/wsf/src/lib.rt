@@ -10,9 +10,10 @@ ghost use Rattle.statements_rules.specs.Fold.{fold_bytes};
 ghost use Rattle.statements_fold.specs.Answer.{numbers_of, laid_over};
 ghost use Rattle.wsf.specs.Answer.{answer_numbers};
 
-use statements_fold::{FoldAnswer, fold};
+use statements_fold::fold;
 
-// The number of document 01's table that refuses the file, 0 where none does; the result's length; the declarators folded.
+// The number of document 01's table that refuses the file, 0 where none does; the result's length; the declarators folded. C has
+// no Result: here and in the other calls the number stands beside the values.
 #[repr(C)]
 #[derive(Clone, Copy)]
 pub struct WsfAnswer {
@@ -31,17 +32,16 @@ pub extern "C" fn wsf_fold(file: &[u8], output: &mut [u8]) -> WsfAnswer
     ensures accepted { refusalOf file.now (length output.old) ≡ 0
         → refusalOf (fold_bytes file.now (length output.old)).result (length output.old) ≡ 0 }
 {
-    let answer = fold(file, output);
-    match answer {
-        FoldAnswer::Refused(number) => WsfAnswer {
-            number: number as u64,
+    match fold(file, output) {
+        Ok(folded) => WsfAnswer {
+            number: 0,
+            length: folded.length as u64,
+            folds: folded.folds as u64,
+        },
+        Err(row) => WsfAnswer {
+            number: u64::from(u8::from(row)),
             length: 0,
             folds: 0,
-        },
-        FoldAnswer::Written(length, folds) => WsfAnswer {
-            number: 0,
-            length: length as u64,
-            folds: folds as u64,
         },
     }
 }

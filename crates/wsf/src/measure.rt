@@ -4,7 +4,7 @@ ghost use Rattle.statements_measure.specs.Measure.{measure_bytes};
 ghost use Rattle.statements_measure.specs.Laws.{MeasureLaws};
 ghost use Rattle.wsf.specs.Answer.{measure_numbers};
 
-use statements_measure::{MeasureAnswer, measure};
+use statements_measure::measure;
 
 // The number of document 01's table that refuses the file, 0 where none of rows 1 to 10 does; the length of the result that
 // `wsf_fold` gives; the looks that it makes.
@@ -22,17 +22,16 @@ pub extern "C" fn wsf_measure(file: &[u8]) -> WsfMeasure
     ensures numbers { measure_numbers result ≡ measure_bytes file.now }
     ensures laws { MeasureLaws file.now }
 {
-    let answer = measure(file);
-    match answer {
-        MeasureAnswer::Refused(number) => WsfMeasure {
-            number: number as u64,
+    match measure(file) {
+        Ok(measured) => WsfMeasure {
+            number: 0,
+            length: measured.length as u64,
+            looks: measured.looks as u64,
+        },
+        Err(row) => WsfMeasure {
+            number: u64::from(u8::from(row)),
             length: 0,
             looks: 0,
-        },
-        MeasureAnswer::Measured(length, looks) => WsfMeasure {
-            number: 0,
-            length: length as u64,
-            looks: looks as u64,
         },
     }
 }

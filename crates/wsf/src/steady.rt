@@ -6,7 +6,7 @@ ghost use Rattle.statements_steady.specs.Answer.{numbers_of};
 ghost use Rattle.statements_steady.specs.Laws.{SteadyLaws};
 ghost use Rattle.wsf.specs.Answer.{steady_numbers};
 
-use statements_steady::{SteadyAnswer, fold_until_steady};
+use statements_steady::fold_until_steady;
 
 // The number of document 01's table that refuses the file, 0 where none does; the last result's length; the declarators that all
 // runs folded; the runs, the last unchanged one counted.
@@ -28,19 +28,18 @@ pub extern "C" fn wsf_fold_until_steady(file: &[u8], output: &mut [u8]) -> WsfSt
         ≡ laid_into (steady_bytes file.now (length output.old)).result output.old }
     ensures laws { SteadyLaws file.now (length output.old) }
 {
-    let answer = fold_until_steady(file, output);
-    match answer {
-        SteadyAnswer::Refused(number) => WsfSteady {
-            number: number as u64,
+    match fold_until_steady(file, output) {
+        Ok(steady) => WsfSteady {
+            number: 0,
+            length: steady.length as u64,
+            folds: steady.folds as u64,
+            runs: steady.runs as u64,
+        },
+        Err(row) => WsfSteady {
+            number: u64::from(u8::from(row)),
             length: 0,
             folds: 0,
             runs: 0,
-        },
-        SteadyAnswer::Written(length, folds, runs) => WsfSteady {
-            number: 0,
-            length: length as u64,
-            folds: folds as u64,
-            runs: runs as u64,
         },
     }
 }

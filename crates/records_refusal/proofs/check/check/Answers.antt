@@ -1,67 +1,77 @@
-use mathlib.Core.Path.{sym, ◌∙◌}
 use native.Mathlib.Omega.{arith}
-use Rattle.records_refusal.proofs.Limits.{names-fit, length_said, file-declarators_fit}
-use Rattle.records_refusal.proofs.Judged.{second-test}
-use Rattle.records_refusal.proofs.Header.{rows-tested}
+use lib.ListN.{get_or-replicate}
+use mathlib.Core.Path.{refl, sym, ◌∙◌}
+use Rattle.std.proofs.lemmas.Result.{err_from_is_err_and}
+use Rattle.records_refusal.proofs.Limits.{names-fit, file-declarators_fit}
+use Rattle.records_refusal.proofs.Rows.{refuses, refused, passed, statements-pass, statements-refuse, nodes-refuse, rows_behind, past_8}
 use Rattle.records_refusal.proofs.check.check.Goals as goal
 
-pub facts_are_bad-bad-requires : goal.facts_are_bad-bad-requires
-facts_are_bad-bad-requires c = record { header = (c.requires.header.is, length_said c.args.file.now c.args.h c.requires.header.measured) }
-
-pub room_is_short-short-requires : goal.room_is_short-short-requires
-room_is_short-short-requires c = record { header = (c.requires.header.is, length_said c.args.file.now c.args.h c.requires.header.measured) }
-
-pub returns-then-bad : goal.returns-then-bad
-returns-then-bad c = record { result = rw c.if-bad.true at (rows-tested c.args.file.now c.args.h c.args.room c.facts_are_bad-bad.result c.room_is_short-short.result c.requires.header c.facts_are_bad-bad.ensures.result c.room_is_short-short.ensures.result) }
-
-pub statement_row-statements-requires : goal.statement_row-statements-requires
-statement_row-statements-requires c = record { header = (c.requires.header.is, length_said c.args.file.now c.args.h c.requires.header.measured) }
-
-pub returns-then-statements : goal.returns-then-statements
-returns-then-statements c = record { result = rw (c.if-bad.false, sym c.statement_row-statements.ensures.bad ∙ c.if-statements.true) at (rows-tested c.args.file.now c.args.h c.args.room c.facts_are_bad-bad.result c.room_is_short-short.result c.requires.header c.facts_are_bad-bad.ensures.result c.room_is_short-short.ensures.result) }
-
-pub node_rows-rows-requires : goal.node_rows-rows-requires
-node_rows-rows-requires c = record {
-  header = c.requires.header;
-  trees = c.statement_row-statements.ensures.trees;
-  stack = c.requires.stack;
-  places = (omega (arith, c.requires.reads.1), omega (arith, c.requires.targets.1));
-  no_reads = c.requires.reads.2;
-  no_targets = c.requires.targets.2;
+pub returns-then-facts_are_bad : goal.returns-then-facts_are_bad
+returns-then-facts_are_bad c = record {
+  result = refused 5 _ c.facts_are_bad.ensures.result c.if-facts_are_bad.true ∙ rows_behind _ _ c.args.room c.args.headed.now.passes;
 }
 
-pub returns-then-rows : goal.returns-then-rows
-returns-then-rows c = record { result = rw (c.if-bad.false, sym c.statement_row-statements.ensures.bad ∙ c.if-statements.false, sym c.node_rows-rows.ensures.bad_nodes ∙ c.if-rows.true) at (rows-tested c.args.file.now c.args.h c.args.room c.facts_are_bad-bad.result c.room_is_short-short.result c.requires.header c.facts_are_bad-bad.ensures.result c.room_is_short-short.ensures.result) }
+pub returns-in_err-trees : goal.returns-in_err-trees
+returns-in_err-trees c =
+    let p = err_from_is_err_and c.from_residual.result c.from_residual.ensures.1 in
+    record {
+      result = rw (p.1, p.2)
+          (passed 5 c.facts_are_bad.ensures.result c.if-facts_are_bad.false
+          (statements-refuse _ _ (refuses c.in_err-trees.field-0.0) c.in_err-trees.ensures.row)
+          ∙ rows_behind _ _ c.args.room c.args.headed.now.passes);
+    }
 
-pub returns-then-rows-2 : goal.returns-then-rows-2
-returns-then-rows-2 c = record { result = rw (c.if-bad.false, sym c.statement_row-statements.ensures.bad ∙ c.if-statements.false, sym c.node_rows-rows.ensures.bad_nodes ∙ c.if-rows.false, sym (second-test _ _ _ _ c.node_rows-rows.ensures.bad_trees c.node_rows-rows.ensures.bad_nodes c.if-rows.false) ∙ c.if-rows-2.true) at (rows-tested c.args.file.now c.args.h c.args.room c.facts_are_bad-bad.result c.room_is_short-short.result c.requires.header c.facts_are_bad-bad.ensures.result c.room_is_short-short.ensures.result) }
+pub returns-in_err-node_rows : goal.returns-in_err-node_rows
+returns-in_err-node_rows c =
+    let p = err_from_is_err_and c.from_residual-in_err-node_rows.result c.from_residual-in_err-node_rows.ensures.1 in
+    record {
+      result = rw (p.1, p.2)
+          (passed 5 c.facts_are_bad.ensures.result c.if-facts_are_bad.false
+          (passed 6 (statements-pass _ c.in_ok-trees.ensures.row) refl
+          (nodes-refuse _ _ _ (refuses c.in_err-node_rows.field-0.0) c.in_err-node_rows.ensures.rows))
+          ∙ rows_behind _ _ c.args.room c.args.headed.now.passes);
+    }
 
 pub names_are_declared_twice-requires : goal.names_are_declared_twice-requires
-names_are_declared_twice-requires c = record {
-  header = (c.requires.header.is, length_said c.args.file.now c.args.h c.requires.header.measured);
-  names = file-declarators_fit c.args.file.now c.args.h c.requires.header.is c.requires.header.limits (sym c.statement_row-statements.ensures.bad ∙ c.if-statements.false);
-  places = c.requires.seen.0;
-  limit = c.requires.seen.1;
-  unseen = c.requires.seen.2;
-}
+names_are_declared_twice-requires c = record { names = file-declarators_fit c.args.headed.now.file.bytes.now c.args.headed.now.file.header c.args.headed.now.passes.is c.args.headed.now.passes.limits (sym (statements-pass _ c.in_ok-trees.ensures.row)) }
 
 pub returns-then-names_are_declared_twice : goal.returns-then-names_are_declared_twice
-returns-then-names_are_declared_twice c = record { result = rw (c.if-bad.false, sym c.statement_row-statements.ensures.bad ∙ c.if-statements.false, sym c.node_rows-rows.ensures.bad_nodes ∙ c.if-rows.false, sym (second-test _ _ _ _ c.node_rows-rows.ensures.bad_trees c.node_rows-rows.ensures.bad_nodes c.if-rows.false) ∙ c.if-rows-2.false, sym c.names_are_declared_twice.ensures.result ∙ c.if-names_are_declared_twice.true) at (rows-tested c.args.file.now c.args.h c.args.room c.facts_are_bad-bad.result c.room_is_short-short.result c.requires.header c.facts_are_bad-bad.ensures.result c.room_is_short-short.ensures.result) }
-
-pub counts_are_bad-requires : goal.counts_are_bad-requires
-counts_are_bad-requires c = record {
-  header = (c.requires.header.is, length_said c.args.file.now c.args.h c.requires.header.measured);
-  reads_room = omega (arith, names-fit c.args.h c.requires.header.limits, c.requires.reads.0);
-  targets_room = omega (arith, names-fit c.args.h c.requires.header.limits, c.requires.targets.0);
-  reads = c.node_rows-rows.ensures.reads c.if-rows-2.false;
-  targets = c.node_rows-rows.ensures.targets c.if-rows-2.false;
+returns-then-names_are_declared_twice c = record {
+  result = past_8 _ _ c.args.room c.args.headed.now.passes c.facts_are_bad.ensures.result c.if-facts_are_bad.false c.in_ok-trees.ensures.row c.in_ok-node_rows.ensures.rows
+      (refused 9 _ c.names_are_declared_twice.ensures.result c.if-names_are_declared_twice.true);
 }
 
-pub returns-then-counts_are_bad : goal.returns-then-counts_are_bad
-returns-then-counts_are_bad c = record { result = rw (c.if-bad.false, sym c.statement_row-statements.ensures.bad ∙ c.if-statements.false, sym c.node_rows-rows.ensures.bad_nodes ∙ c.if-rows.false, sym (second-test _ _ _ _ c.node_rows-rows.ensures.bad_trees c.node_rows-rows.ensures.bad_nodes c.if-rows.false) ∙ c.if-rows-2.false, sym c.names_are_declared_twice.ensures.result ∙ c.if-names_are_declared_twice.false, sym c.counts_are_bad.ensures.result ∙ c.if-counts_are_bad.true) at (rows-tested c.args.file.now c.args.h c.args.room c.facts_are_bad-bad.result c.room_is_short-short.result c.requires.header c.facts_are_bad-bad.ensures.result c.room_is_short-short.ensures.result) }
+pub node_rows-requires-clause-no_reads : goal.node_rows-requires-clause-no_reads
+node_rows-requires-clause-no_reads c k h = get_or-replicate 256 k 0 0 h
 
-pub returns-then-short : goal.returns-then-short
-returns-then-short c = record { result = rw (c.if-bad.false, sym c.statement_row-statements.ensures.bad ∙ c.if-statements.false, sym c.node_rows-rows.ensures.bad_nodes ∙ c.if-rows.false, sym (second-test _ _ _ _ c.node_rows-rows.ensures.bad_trees c.node_rows-rows.ensures.bad_nodes c.if-rows.false) ∙ c.if-rows-2.false, sym c.names_are_declared_twice.ensures.result ∙ c.if-names_are_declared_twice.false, sym c.counts_are_bad.ensures.result ∙ c.if-counts_are_bad.false, c.if-short.true) at (rows-tested c.args.file.now c.args.h c.args.room c.facts_are_bad-bad.result c.room_is_short-short.result c.requires.header c.facts_are_bad-bad.ensures.result c.room_is_short-short.ensures.result) }
+pub node_rows-requires-clause-no_targets : goal.node_rows-requires-clause-no_targets
+node_rows-requires-clause-no_targets c k h = get_or-replicate 256 k 0 0 h
+
+pub counts_are_bad-requires-clause-reads_room : goal.counts_are_bad-requires-clause-reads_room
+counts_are_bad-requires-clause-reads_room c = omega (arith, names-fit c.args.headed.now.file.header c.args.headed.now.passes.limits)
+
+pub counts_are_bad-requires-clause-targets_room : goal.counts_are_bad-requires-clause-targets_room
+counts_are_bad-requires-clause-targets_room c = omega (arith, names-fit c.args.headed.now.file.header c.args.headed.now.passes.limits)
+
+pub returns-then-counts_are_bad : goal.returns-then-counts_are_bad
+returns-then-counts_are_bad c = record {
+  result = past_8 _ _ c.args.room c.args.headed.now.passes c.facts_are_bad.ensures.result c.if-facts_are_bad.false c.in_ok-trees.ensures.row c.in_ok-node_rows.ensures.rows
+      (passed 9 c.names_are_declared_twice.ensures.result c.if-names_are_declared_twice.false
+      (refused 10 _ c.counts_are_bad.ensures.result c.if-counts_are_bad.true));
+}
+
+pub returns-then-room_is_short : goal.returns-then-room_is_short
+returns-then-room_is_short c = record {
+  result = past_8 _ _ c.args.room c.args.headed.now.passes c.facts_are_bad.ensures.result c.if-facts_are_bad.false c.in_ok-trees.ensures.row c.in_ok-node_rows.ensures.rows
+      (passed 9 c.names_are_declared_twice.ensures.result c.if-names_are_declared_twice.false
+      (passed 10 c.counts_are_bad.ensures.result c.if-counts_are_bad.false
+      (refused 11 _ c.room_is_short.ensures.result c.if-room_is_short.true)));
+}
 
 pub returns : goal.returns
-returns c = record { result = rw (c.if-bad.false, sym c.statement_row-statements.ensures.bad ∙ c.if-statements.false, sym c.node_rows-rows.ensures.bad_nodes ∙ c.if-rows.false, sym (second-test _ _ _ _ c.node_rows-rows.ensures.bad_trees c.node_rows-rows.ensures.bad_nodes c.if-rows.false) ∙ c.if-rows-2.false, sym c.names_are_declared_twice.ensures.result ∙ c.if-names_are_declared_twice.false, sym c.counts_are_bad.ensures.result ∙ c.if-counts_are_bad.false, c.if-short.false) at (rows-tested c.args.file.now c.args.h c.args.room c.facts_are_bad-bad.result c.room_is_short-short.result c.requires.header c.facts_are_bad-bad.ensures.result c.room_is_short-short.ensures.result) }
+returns c = record {
+  result = past_8 _ _ c.args.room c.args.headed.now.passes c.facts_are_bad.ensures.result c.if-facts_are_bad.false c.in_ok-trees.ensures.row c.in_ok-node_rows.ensures.rows
+      (passed 9 c.names_are_declared_twice.ensures.result c.if-names_are_declared_twice.false
+      (passed 10 c.counts_are_bad.ensures.result c.if-counts_are_bad.false
+      (passed 11 c.room_is_short.ensures.result c.if-room_is_short.false refl)));
+}

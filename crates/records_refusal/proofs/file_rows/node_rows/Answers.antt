@@ -1,17 +1,27 @@
-use mathlib.Core.Path.{ap}
+use mathlib.Core.Path.{refl, sym, ap}
 use mathlib.Core.Bool.{not}
+use borrow.Author.Tests.{not-false}
 use native.Mathlib.Omega.{arith}
-use Rattle.records.specs.File.{names_of, nodes_of, declarators_of, statements_of}
-use Rattle.records.specs.Node.{bad_nodes}
-use Rattle.records_refusal.proofs.Judged.{node_rows_judged, reads-alone, targets-alone, first_of_three}
+use Rattle.std.proofs.lemmas.Result.{err_from_is_err_and}
+use Rattle.records_refusal.proofs.Judged.{trees-judged, trees-bad}
+use Rattle.records_refusal.proofs.Rows.{refuses, refused, passed, nodes-pass, trees-refuse}
 use Rattle.records_refusal.proofs.file_rows.node_rows.Goals as goal
 
-pub returns : goal.returns
-unfolding bad_nodes
-returns c = record {
-  bad_nodes = ap not c.scan_nodes-s.ensures.nodes_good;
-  bad_trees = node_rows_judged (names_of c.args.file.now) (declarators_of c.args.file.now) (statements_of c.args.file.now) (nodes_of c.args.file.now) _ _ _ _ _ _
-      c.scan_nodes-s.ensures.nodes_good c.scan_nodes-s.ensures.trees_taken (omega (arith, c.scan_nodes-s.ensures.top)) (λ t. (c.scan_nodes-s.ensures.taken t).entered) c.requires.trees c.roots_stand.ensures.result;
-  reads = λ b. reads-alone (c.scan_nodes-s.ensures.taken (first_of_three _ _ _ b)) c.scan_nodes-s.auto.reads c.requires.no_reads;
-  targets = λ b. targets-alone (c.scan_nodes-s.ensures.taken (first_of_three _ _ _ b)) c.scan_nodes-s.auto.targets c.requires.no_targets;
-}
+pub returns-in_err-top-clause-rows : goal.returns-in_err-top-clause-rows
+returns-in_err-top-clause-rows c =
+    let p = err_from_is_err_and c.from_residual.result c.from_residual.ensures.1 in
+    rw (p.1, p.2) (trees-refuse _ _ _ (refuses c.in_err-top.field-0.0) (trees-bad _ _ _) c.in_err-top.ensures.rows)
+
+pub returns-then-found-trees-clause-rows : goal.returns-then-found-trees-clause-rows
+returns-then-found-trees-clause-rows c =
+    let p = nodes-pass _ _ c.in_ok-top.ensures.rows in
+    passed 7 p.0 refl
+    (passed 8 (trees-judged _ _ _ _ _ _ (not-false _ (sym p.1)) (omega (arith, c.in_ok-top.ensures.top)) c.in_ok-top.ensures.taken.entered c.requires.trees c.roots_stand.ensures.result)
+    (ap not c.if-found-trees.true) refl)
+
+pub returns-else-found-trees-clause-rows : goal.returns-else-found-trees-clause-rows
+returns-else-found-trees-clause-rows c =
+    let p = nodes-pass _ _ c.in_ok-top.ensures.rows in
+    passed 7 p.0 refl
+    (refused 8 _ (trees-judged _ _ _ _ _ _ (not-false _ (sym p.1)) (omega (arith, c.in_ok-top.ensures.top)) c.in_ok-top.ensures.taken.entered c.requires.trees c.roots_stand.ensures.result)
+    (ap not c.if-found-trees.false))

@@ -3,4 +3,4 @@ use Rattle.records_refusal.proofs.file_rows.room_wanted.Goals as goal
 
 pub returns : goal.returns
 unfolding room_wanted
-returns c = record { result = rw (c.size.ensures.result.0, c.requires.header.0) }
+returns c = record { result = rw (c.from.ensures, c.args.file.now.whole.0) }

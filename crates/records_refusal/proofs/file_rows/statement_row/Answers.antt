@@ -1,32 +1,22 @@
+use mathlib.Core.Path.{refl, ap}
+use mathlib.Core.Bool.{not}
 use native.Mathlib.Omega.{arith}
-use Rattle.records.specs.Record.{header_of, declarator_at}
-use Rattle.records.specs.Script.{bad_statements}
-use Rattle.records.specs.File.{names_of, declarators_of, statements_of, declarators_start}
-use Rattle.records.proofs.Series.{records-length}
-use Rattle.records_refusal.proofs.Judged.{initializers-low, expressions-low}
+use Rattle.records_refusal.proofs.Judged.{initializers-low, expressions-low, statements-judged}
+use Rattle.records_refusal.proofs.Rows.{refused, passed}
 use Rattle.records_refusal.proofs.file_rows.statement_row.Goals as goal
 
-pub declarator_totals-d-requires : goal.declarator_totals-d-requires
-declarator_totals-d-requires c = rw c.part_offsets-parts.ensures.result (omega arith)
-
-pub statement_totals-s-requires : goal.statement_totals-s-requires
-statement_totals-s-requires c = rw c.part_offsets-parts.ensures.result (omega arith)
-
 pub overflow_add-result : goal.overflow_add-result
-overflow_add-result c = omega (arith, initializers-low _ _ _ _ _ c.declarator_totals-d.ensures.initializers, expressions-low _ _ _ _ _ c.statement_totals-s.ensures.expressions, c.size-declarators.ensures.result.1, c.size.ensures.result.1)
+overflow_add-result c = omega (arith, initializers-low _ _ _ _ _ c.declarator_totals-d.ensures.initializers, expressions-low _ _ _ _ _ c.statement_totals-s.ensures.expressions)
 
-pub returns : goal.returns
-unfolding bad_statements names_of declarators_of statements_of
-returns c = record {
-  bad = rw (
-    c.declarator_totals-d.ensures.good,
-    c.statement_totals-s.ensures.good,
-    c.statement_totals-s.ensures.declarators,
-    c.part_offsets-parts.ensures.result,
-    c.size-declarators.ensures.result.0,
-    c.size.ensures.result.0,
-    c.requires.header.0,
-    records-length (declarator_at c.args.file.now) 4 (header_of c.args.file.now).declarators (declarators_start (header_of c.args.file.now)),
-  );
-  trees = rw (c.declarator_totals-d.ensures.initializers, c.statement_totals-s.ensures.expressions, c.part_offsets-parts.ensures.result, c.size-declarators.ensures.result.0, c.size.ensures.result.0, c.requires.header.0);
-}
+pub returns-then-d-s-clause-row : goal.returns-then-d-s-clause-row
+returns-then-d-s-clause-row c =
+    passed 6 (statements-judged c.args.file.now.bytes.now c.args.file.now.header c.args.file.now.whole.0 c.declarators-declarators.ensures.count c.declarators-declarators.ensures.records c.statements.ensures.records c.declarator_totals-d.ensures.good c.statement_totals-s.ensures.good c.statement_totals-s.ensures.declarators)
+    (ap not c.if-d-s.true) refl
+
+pub returns-then-d-s-clause-trees : goal.returns-then-d-s-clause-trees
+returns-then-d-s-clause-trees c = rw (c.declarator_totals-d.ensures.initializers, c.statement_totals-s.ensures.expressions, c.declarators-declarators.ensures.records, c.statements.ensures.records)
+
+pub returns-else-d-s-clause-row : goal.returns-else-d-s-clause-row
+returns-else-d-s-clause-row c =
+    refused 6 _ (statements-judged c.args.file.now.bytes.now c.args.file.now.header c.args.file.now.whole.0 c.declarators-declarators.ensures.count c.declarators-declarators.ensures.records c.statements.ensures.records c.declarator_totals-d.ensures.good c.statement_totals-s.ensures.good c.statement_totals-s.ensures.declarators)
+    (ap not c.if-d-s.false)

@@ -3,4 +3,4 @@ use Rattle.records_rows.proofs.count.count_is_good.Goals as goal
 
 pub returns : goal.returns
 unfolding good_counts
-returns c = record { result = rw (c.is_recorded-recorded.ensures.result, c.is_mutated-mutated.ensures.result, c.is_unresolved-unresolved.ensures.result, c.wide16.ensures.result.0, c.wide16-2.ensures.result.0) }
+returns c = record { result = rw (c.is_recorded-recorded.ensures.result, c.is_mutated-mutated.ensures.result, c.is_unresolved-unresolved.ensures.result, c.from.ensures, c.from-2.ensures) }

@@ -1,21 +1,18 @@
-use mathlib.Core.Path.{sym, ◌∙◌}
-use mathlib.Core.Bool.{and-true}
-use native.Mathlib.Nat.{one-mul}
-use Rattle.records.specs.Records.{records_from, every_from}
-use Rattle.records.proofs.Series.{passed_none, passed-more, passed-all}
-use Rattle.records_rows.specs.Stack.{entry_at}
+use mathlib.Core.Path.{◌≡◌, ◌∙◌}
+use Prim.Native.Nat.{◌+◌, ◌-◌}
+use native.Mathlib.Omega.{arith}
+use lib.ListN.{take, drop}
+use mathlib.Core.Bool.{true, false}
+use borrow.Author.Tests.{tests}
+use Rattle.std.proofs.Common.{rules}
+use Rattle.std.proofs.lemmas.Iterator.{YieldsList-from_slice, cases_from_all}
+use Rattle.records.proofs.Listed.{every-listed}
+use Rattle.records_rows.specs.Stack.{root_stands}
+use Rattle.records_rows.proofs.Stacks.{entries_part}
 use Rattle.records_rows.proofs.place.roots_stand.Goals as goal
 
-pub returns-then-count-eq1 : goal.returns-then-count-eq1
-unfolding records_from every_from entry_at
-returns-then-count-eq1 c = record { result = c.root_stands.ensures.result ∙ rw c.if-count-eq1.true (sym (and-true _)) }
-
-pub loop-i-init : goal.loop-i-init
-loop-i-init c = passed_none
-
-pub loop-i-preserved : goal.loop-i-preserved
-unfolding entry_at
-loop-i-preserved c = passed-more _ c.root_stands-good.result c.loop-i.invariant c.loop-i-test.true (rw one-mul) c.root_stands-good.ensures.result
-
 pub returns : goal.returns
-returns c = record { result = passed-all c.loop-i.invariant c.loop-i-test.false }
+returns c = let e : c.args.top + c.args.count - c.args.top ≡ c.args.count = omega arith in record {
+  result = rw (entries_part c.args.stack.now c.args.count c.args.top c.requires.room)
+      (every-listed root_stands _ 0 _ (cases_from_all _ _ _ (λ x. root_stands x ≡ true) (λ x. root_stands x ≡ false) c.all.ensures.ran (YieldsList-from_slice (take c.args.count (drop c.args.top c.args.stack.now)) (c.iter.ensures.rest ∙ rw e)) (λ x q k. search (rules, tests)) (λ x q k. search (rules, tests))));
+}

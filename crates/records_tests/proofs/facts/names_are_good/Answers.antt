@@ -1,11 +1,13 @@
-use Rattle.records.proofs.Series.{passed_none, passed-more, passed-all}
+use mathlib.Core.Path.{refl}
+use native.Mathlib.Omega.{arith}
+use borrow.Author.Tests.{tests}
+use Rattle.std.proofs.Common.{rules}
+use Rattle.records.specs.Record.{name_at}
+use Rattle.records.specs.Facts.{good_name}
+use Rattle.records.proofs.Ranged.{every-all}
 use Rattle.records_tests.proofs.facts.names_are_good.Goals as goal
 
-pub loop-i-init : goal.loop-i-init
-loop-i-init c = passed_none
-
-pub loop-i-preserved : goal.loop-i-preserved
-loop-i-preserved c = passed-more c.name_at.result c.name_is_good-good.result c.loop-i.invariant c.loop-i-test.true c.name_at.ensures.result c.name_is_good-good.ensures.result
-
 pub returns : goal.returns
-returns c = record { result = passed-all c.loop-i.invariant c.loop-i-test.false }
+returns c = record {
+  result = every-all (λ k. good_name c.args.scopes) (name_at c.args.names.now.file.now) 12 0 c.args.names.now.count c.args.names.now.count c.args.names.now.from c.args.names.now.from (omega arith) (omega arith) _ _ _ c.all.ensures.ran refl (λ x q k. search (rules, tests)) (λ x q k. search (rules, tests));
+}

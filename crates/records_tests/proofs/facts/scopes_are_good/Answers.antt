@@ -1,12 +1,13 @@
-use mathlib.Core.Path.{◌∙◌}
-use Rattle.records.proofs.Series.{passed_none, passed-more, passed-all}
+use mathlib.Core.Path.{refl}
+use native.Mathlib.Omega.{arith}
+use borrow.Author.Tests.{tests}
+use Rattle.std.proofs.Common.{rules}
+use Rattle.records.specs.Record.{scope_at}
+use Rattle.records.specs.Facts.{good_scope}
+use Rattle.records.proofs.Ranged.{every-all}
 use Rattle.records_tests.proofs.facts.scopes_are_good.Goals as goal
 
-pub loop-i-init : goal.loop-i-init
-loop-i-init c = passed_none
-
-pub loop-i-preserved : goal.loop-i-preserved
-loop-i-preserved c = passed-more c.scope_at.result c.scope_is_good-good.result c.loop-i.invariant c.loop-i-test.true (c.scope_at.ensures.result ∙ rw c.size.ensures.result.0) c.scope_is_good-good.ensures.result
-
 pub returns : goal.returns
-returns c = record { result = passed-all c.loop-i.invariant c.loop-i-test.false }
+returns c = record {
+  result = every-all good_scope (scope_at c.args.file.now) 4 0 c.args.count c.args.count c.args.from c.args.from (omega arith) (omega arith) _ _ _ c.all.ensures.ran refl (λ x q k. search (rules, tests)) (λ x q k. search (rules, tests));
+}

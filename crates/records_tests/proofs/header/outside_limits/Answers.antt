@@ -3,4 +3,4 @@ use Rattle.records_tests.proofs.header.outside_limits.Goals as goal
 
 pub returns : goal.returns
 unfolding outside_limits
-returns c = record { result = rw (c.wide16.ensures.result.0, c.wide16-2.ensures.result.0) }
+returns c = record { result = rw (c.from.ensures, c.from-2.ensures) }

@@ -1,8 +1,5 @@
-use Rattle.std.proofs.Common.{◌-◌, ◌+◌, ◌≤◌}
+use Rattle.std.proofs.Common.{◌+◌, ◌≤◌}
 use Rattle.replay_answers.proofs.segment.segment_end.Given as goal
 
-abbrev pub invariant-loop-k : goal.invariant-loop-k
-invariant-loop-k l = (l.at + l.bytes ≤ l.end) × (l.end ≤ l.most)
-
-abbrev pub decreases-loop-k : goal.decreases-loop-k
-decreases-loop-k l = l.times - l.k
+abbrev pub invariant-loop : goal.invariant-loop
+invariant-loop l = (l.at + l.bytes ≤ l.end) × (l.end ≤ l.most)

@@ -1,15 +1,11 @@
 use Prim.Native.Nat.{◌+◌}
 use mathlib.Core.Path.{◌≡◌}
-use lib.ListN.{length}
 use Rattle.records.specs.File.{read}
 use Rattle.walk_rules.specs.Context.{context_of}
 use Rattle.statements_search.proofs.Going.{SomeGoing}
 use Rattle.statements_search.proofs.from_declarators.substitute_single_use_symbol_in_expression_from_declarators.Given as goal
 
-abbrev pub invariant-loop-left : goal.invariant-loop-left
-invariant-loop-left l =
-    (length l.nodes ≡ length l.initial.nodes) × (l.folds + l.left ≡ l.initial.left)
-    × SomeGoing (context_of (read l.file)) l.literal_only l.declarators l.starts l.first l.initial.nodes l.nodes l.initial.left l.initial.tree.0 l.initial.nodes_used l.left l.tree.0 l.nodes_used l.folds l.looks
-
-abbrev pub decreases-loop-left : goal.decreases-loop-left
-decreases-loop-left l = l.left
+abbrev pub invariant-loop-last : goal.invariant-loop-last
+invariant-loop-last l =
+    (l.found.folds + l.last ≡ l.fn.target.declarators_kept) × (l.found.declarators_kept ≡ l.last)
+    × SomeGoing (context_of (read l.file.bytes.now)) l.literal_only l.declarators l.starts l.first l.initial.nodes l.nodes l.fn.target.declarators_kept l.fn.target.tree.0 l.fn.target.nodes_used l.last l.found.tree.0 l.found.nodes_used l.found.folds l.found.looks

@@ -12,7 +12,6 @@ use Rattle.walk_rules.specs.Context.{context_of}
 use Rattle.walk_arms.specs.declared.arms.Plan.TheVariants.{All}
 use Rattle.walk_arms.specs.Answers.{is_replaced}
 use Rattle.walk.specs.declared.forest.Forest.{Forest}
-use Rattle.walk.proofs.OtherAnswers.{unpassed}
 use Rattle.walk.proofs.Searching.{SeeksForest, searchable-room, forest_stands, searches, searches_forest, sought_forest, here_found, tag-here, node-searched}
 use Rattle.walk.proofs.Rest.{goes_further}
 use Rattle.walk.specs.Forests.{GoesOn}
@@ -25,14 +24,14 @@ use Rattle.walk.proofs.expression.+substitute_single_use_symbol_in_expression_wa
   substitute_single_use_symbol_in_expression-then-is_one,
   substitute_single_use_symbol_in_expression-else-is_one,
   walk_list-After-pass_small-forest,
-  walk_list-Else-is_replaced,
+  walk_list-In-Stopped,
 }
 
 -- the children were searched, by the walk where there is one, else by the list walk
 searched_children : (t : ℕ) (c : substitute_single_use_symbol_in_expression-Joined-is_one t)
-    → SeeksForest (context_of (read c.args.file.now)) c.args.replacement c.args.nodes.now c.if-is_one.nodes c.begin-begun.result.next.0 c.begin-begun.result.trees c.begin-begun.result.plan c.if-is_one.children
+    → SeeksForest (context_of (read c.args.file.now.bytes.now)) c.args.replacement c.args.nodes.now c.if-is_one.nodes c.begin-begun.result.next.0 c.begin-begun.result.trees c.begin-begun.result.plan c.if-is_one.children
 searched_children t c =
-    let ctx = context_of (read c.args.file.now) in
+    let ctx = context_of (read c.args.file.now.bytes.now) in
     elim c.if-is_one.branch [
       | substitute_single_use_symbol_in_expression-then-is_one w ↦
           let one = is_one_of c.begin-begun.result.trees c.begin-begun.result.plan (sym c.is_one.ensures.result ∙ w.if-is_one.true) in
@@ -49,24 +48,24 @@ starting at many plan = record { next = at; trees = many; plan = plan; effect = 
 
 -- it has gone on to where the next tree isn't small
 gone_on : (t : ℕ) (c : walk_list-After-pass_small-forest t)
-    → GoesOn (context_of (read c.args.file.now)) c.args.replacement c.args.nodes.now c.loop-replacement.nodes (starting c.args.at c.args.many c.args.plan) c.pass_small-forest.result
+    → GoesOn (context_of (read c.args.file.now.bytes.now)) c.args.replacement c.args.nodes.now c.loop-forest.nodes (starting c.args.at c.args.many c.args.plan) c.pass_small-forest.result
 gone_on t c =
-    goes_further (context_of (read c.args.file.now)) c.args.replacement c.args.nodes.now c.loop-replacement.nodes c.loop-replacement.nodes (starting c.args.at c.args.many c.args.plan) c.loop-replacement.forest c.pass_small-forest.result c.loop-replacement.invariant.0 c.pass_small-forest.ensures.result
+    goes_further (context_of (read c.args.file.now.bytes.now)) c.args.replacement c.args.nodes.now c.loop-forest.nodes c.loop-forest.nodes (starting c.args.at c.args.many c.args.plan) c.loop-forest.forest c.pass_small-forest.result c.loop-forest.invariant.0 c.pass_small-forest.ensures.result
 
 -- the trees that are left can be searched, and are no more than all
 rest_left : (t : ℕ) (c : walk_list-After-pass_small-forest t)
-    → SearchableForest c.loop-replacement.nodes c.pass_small-forest.result.next.0 c.pass_small-forest.result.trees
-    × (sizes (forest_at c.loop-replacement.nodes c.pass_small-forest.result.next.0 c.pass_small-forest.result.trees) ≤ sizes (forest_at c.args.nodes.now c.args.at.0 c.args.many))
+    → SearchableForest c.loop-forest.nodes c.pass_small-forest.result.next.0 c.pass_small-forest.result.trees
+    × (sizes (forest_at c.loop-forest.nodes c.pass_small-forest.result.next.0 c.pass_small-forest.result.trees) ≤ sizes (forest_at c.args.nodes.now c.args.at.0 c.args.many))
 rest_left t c =
-    rest-searchable (context_of (read c.args.file.now)) c.args.replacement (starting c.args.at c.args.many c.args.plan) c.pass_small-forest.result (gone_on t c) c.requires.described c.requires.trees
+    rest-searchable (context_of (read c.args.file.now.bytes.now)) c.args.replacement (starting c.args.at c.args.many c.args.plan) c.pass_small-forest.result (gone_on t c) c.requires.described c.requires.trees
 
 -- so can those behind the first of them, and they are fewer
-others_left : (t : ℕ) (c : walk_list-Else-is_replaced t) → SearchableForest c.loop-replacement.nodes c.pass_small-forest.result.next.0 c.pass_small-forest.result.trees
+others_left : (t : ℕ) (c : walk_list-In-Stopped t) → SearchableForest c.loop-forest.nodes c.pass_small-forest.result.next.0 c.pass_small-forest.result.trees
     → SearchableForest c.substitute_single_use_symbol_in_expression-first.new.nodes c.substitute_single_use_symbol_in_expression-first.result.end.0 (c.pass_small-forest.result.trees - 1)
-    × (sizes (forest_at c.substitute_single_use_symbol_in_expression-first.new.nodes c.substitute_single_use_symbol_in_expression-first.result.end.0 (c.pass_small-forest.result.trees - 1)) < sizes (forest_at c.loop-replacement.nodes c.pass_small-forest.result.next.0 c.pass_small-forest.result.trees))
+    × (sizes (forest_at c.substitute_single_use_symbol_in_expression-first.new.nodes c.substitute_single_use_symbol_in_expression-first.result.end.0 (c.pass_small-forest.result.trees - 1)) < sizes (forest_at c.loop-forest.nodes c.pass_small-forest.result.next.0 c.pass_small-forest.result.trees))
 others_left t c rest =
-    others-searchable (context_of (read c.args.file.now)) c.args.replacement c.substitute_single_use_symbol_in_expression-first.ensures.result c.requires.described c.if-trees-eq0.false
-    (sym c.is_replaced.ensures.result ∙ c.if-is_replaced.false) rest
+    others-searchable (context_of (read c.args.file.now.bytes.now)) c.args.replacement c.substitute_single_use_symbol_in_expression-first.ensures.result c.requires.described c.if-forest-eq0.false
+    (ap is_replaced c.in-Stopped.is) rest
 
 pub substitute_single_use_symbol_in_expression-work_node-n-requires : goal.substitute_single_use_symbol_in_expression-work_node-n-requires
 substitute_single_use_symbol_in_expression-work_node-n-requires t c =
@@ -74,7 +73,7 @@ substitute_single_use_symbol_in_expression-work_node-n-requires t c =
 
 pub substitute_single_use_symbol_in_expression-returns-then-is_specific_id : goal.substitute_single_use_symbol_in_expression-returns-then-is_specific_id
 substitute_single_use_symbol_in_expression-returns-then-is_specific_id t c =
-    let ctx = context_of (read c.args.file.now) in
+    let ctx = context_of (read c.args.file.now.bytes.now) in
     record {
       result =
           searches ctx c.args.replacement c.args.nodes.now c.args.nodes.now c.args.at.0 _ c.requires.tree
@@ -84,7 +83,7 @@ substitute_single_use_symbol_in_expression-returns-then-is_specific_id t c =
 
 pub substitute_single_use_symbol_in_expression-returns-then-begun : goal.substitute_single_use_symbol_in_expression-returns-then-begun
 substitute_single_use_symbol_in_expression-returns-then-begun t c =
-    let ctx = context_of (read c.args.file.now) in
+    let ctx = context_of (read c.args.file.now.bytes.now) in
     record {
       result =
           searches ctx c.args.replacement c.args.nodes.now c.args.nodes.now c.args.at.0 _ c.requires.tree
@@ -94,16 +93,16 @@ substitute_single_use_symbol_in_expression-returns-then-begun t c =
 
 pub substitute_single_use_symbol_in_expression-substitute_single_use_symbol_in_expression-children-requires : goal.substitute_single_use_symbol_in_expression-substitute_single_use_symbol_in_expression-children-requires
 substitute_single_use_symbol_in_expression-substitute_single_use_symbol_in_expression-children-requires t c =
-    let ctx = context_of (read c.args.file.now) in
+    let ctx = context_of (read c.args.file.now.bytes.now) in
     let one = is_one_of c.begin-begun.result.trees c.begin-begun.result.plan (sym c.is_one.ensures.result ∙ c.if-is_one.true) in
     let child = child_call ctx c.begin-begun.ensures.result c.requires.described c.requires.tree one.0 in
-    (omega (arith, c.decreases, child.1), (c.requires.whole, (child.0, c.requires.described)))
+    (omega (arith, c.decreases, child.1), (child.0, c.requires.described))
 
 pub substitute_single_use_symbol_in_expression-walk_list-children-requires : goal.substitute_single_use_symbol_in_expression-walk_list-children-requires
 substitute_single_use_symbol_in_expression-walk_list-children-requires t c =
-    let ctx = context_of (read c.args.file.now) in
+    let ctx = context_of (read c.args.file.now.bytes.now) in
     let kids = list_call ctx c.begin-begun.ensures.result c.requires.described c.requires.tree in
-    (omega (arith, c.decreases, kids.1), (c.requires.whole, (kids.0, c.requires.described)))
+    (omega (arith, c.decreases, kids.1), (kids.0, c.requires.described))
 
 pub substitute_single_use_symbol_in_expression-of_children-requires-clause-record : goal.substitute_single_use_symbol_in_expression-of_children-requires-clause-record
 substitute_single_use_symbol_in_expression-of_children-requires-clause-record t c =
@@ -112,7 +111,7 @@ substitute_single_use_symbol_in_expression-of_children-requires-clause-record t 
 
 pub substitute_single_use_symbol_in_expression-of_children-requires-clause-looks : goal.substitute_single_use_symbol_in_expression-of_children-requires-clause-looks
 substitute_single_use_symbol_in_expression-of_children-requires-clause-looks t c =
-    let ctx = context_of (read c.args.file.now) in
+    let ctx = context_of (read c.args.file.now.bytes.now) in
     let kids = list_call ctx c.begin-begun.ensures.result c.requires.described c.requires.tree in
     let searched = searched_children t (goal.at.substitute_single_use_symbol_in_expression-of_children-requires-clause-looks t c).Joined-is_one in
     omega (
@@ -123,7 +122,7 @@ substitute_single_use_symbol_in_expression-of_children-requires-clause-looks t c
 
 pub substitute_single_use_symbol_in_expression-returns : goal.substitute_single_use_symbol_in_expression-returns
 substitute_single_use_symbol_in_expression-returns t c =
-    let ctx = context_of (read c.args.file.now) in
+    let ctx = context_of (read c.args.file.now.bytes.now) in
     let searched = searched_children t (goal.at.substitute_single_use_symbol_in_expression-returns t c).Joined-is_one in
     record {
       result =
@@ -134,32 +133,32 @@ substitute_single_use_symbol_in_expression-returns t c =
 
 pub walk_list-pass_small-forest-requires-clause-looks : goal.walk_list-pass_small-forest-requires-clause-looks
 walk_list-pass_small-forest-requires-clause-looks t c =
-    let ctx = context_of (read c.args.file.now) in
+    let ctx = context_of (read c.args.file.now.bytes.now) in
     let start = starting c.args.at c.args.many c.args.plan in
     omega (
       arith,
-      list_looks ctx c.args.replacement start c.loop-replacement.forest c.loop-replacement.invariant.0 refl c.requires.described c.requires.trees,
-      c.loop-replacement.invariant.1,
+      list_looks ctx c.args.replacement start c.loop-forest.forest c.loop-forest.invariant.0 refl c.requires.described c.requires.trees,
+      c.loop-forest.invariant.1,
     )
 
-pub walk_list-returns-then-trees-eq0 : goal.walk_list-returns-then-trees-eq0
-walk_list-returns-then-trees-eq0 t c =
-    let ctx = context_of (read c.args.file.now) in
-    let on = gone_on t (goal.at.walk_list-returns-then-trees-eq0 t c).After-pass_small-forest in
+pub walk_list-returns-then-forest-eq0 : goal.walk_list-returns-then-forest-eq0
+walk_list-returns-then-forest-eq0 t c =
+    let ctx = context_of (read c.args.file.now.bytes.now) in
+    let on = gone_on t (goal.at.walk_list-returns-then-forest-eq0 t c).After-pass_small-forest in
     record {
       result =
-          searches_forest ctx c.args.replacement c.args.nodes.now c.loop-replacement.nodes c.args.at.0 c.args.many c.args.plan _ c.requires.trees
-          (list_none ctx c.args.replacement c.args.nodes.now c.loop-replacement.nodes c.args.at c.args.many c.args.plan c.pass_small-forest.result on _ c.if-trees-eq0.true c.passed.ensures.result);
+          searches_forest ctx c.args.replacement c.args.nodes.now c.loop-forest.nodes c.args.at.0 c.args.many c.args.plan _ c.requires.trees
+          (list_none ctx c.args.replacement c.args.nodes.now c.loop-forest.nodes c.args.at c.args.many c.args.plan c.pass_small-forest.result on _ c.if-forest-eq0.true c.passed.ensures.result);
     }
 
 pub walk_list-returns-then-is_nothing : goal.walk_list-returns-then-is_nothing
 walk_list-returns-then-is_nothing t c =
-    let ctx = context_of (read c.args.file.now) in
+    let ctx = context_of (read c.args.file.now.bytes.now) in
     let on = gone_on t (goal.at.walk_list-returns-then-is_nothing t c).After-pass_small-forest in
     record {
       result =
-          searches_forest ctx c.args.replacement c.args.nodes.now c.loop-replacement.nodes c.args.at.0 c.args.many c.args.plan _ c.requires.trees
-          (list_nothing ctx c.args.replacement c.args.nodes.now c.loop-replacement.nodes c.args.at c.args.many c.args.plan c.pass_small-forest.result on _ c.pass_forest-others.result.next c.pass_forest-others.result.effect
+          searches_forest ctx c.args.replacement c.args.nodes.now c.loop-forest.nodes c.args.at.0 c.args.many c.args.plan _ c.requires.trees
+          (list_nothing ctx c.args.replacement c.args.nodes.now c.loop-forest.nodes c.args.at c.args.many c.args.plan c.pass_small-forest.result on _ c.pass_forest-others.result.next c.pass_forest-others.result.effect
           (sym c.is_nothing.ensures.result ∙ c.if-is_nothing.true) c.pass_forest-others.ensures.result c.passed-then-is_nothing.ensures.result);
     }
 
@@ -167,106 +166,106 @@ pub walk_list-substitute_single_use_symbol_in_expression-first-requires : goal.w
 walk_list-substitute_single_use_symbol_in_expression-first-requires t c =
     let at = goal.at.walk_list-substitute_single_use_symbol_in_expression-first-requires t c in
     let rest = rest_left t at.After-pass_small-forest in
-    let first = first_child c.if-trees-eq0.false rest.0 in
-    (omega (arith, c.decreases, first.1, rest.1), (c.requires.whole, (first.0, c.requires.described)))
+    let first = first_child c.if-forest-eq0.false rest.0 in
+    (omega (arith, c.decreases, first.1, rest.1), (first.0, c.requires.described))
 
 pub walk_list-overflow_add-looks : goal.walk_list-overflow_add-looks
 walk_list-overflow_add-looks t c =
-    let ctx = context_of (read c.args.file.now) in
+    let ctx = context_of (read c.args.file.now.bytes.now) in
     let start = starting c.args.at c.args.many c.args.plan in
     let on = gone_on t (goal.at.walk_list-overflow_add-looks t c).After-pass_small-forest in
     omega (
       arith,
-      next-looks ctx c.args.replacement start c.pass_small-forest.result on refl c.requires.described c.requires.trees _ c.substitute_single_use_symbol_in_expression-first.result c.substitute_single_use_symbol_in_expression-first.ensures.result c.if-trees-eq0.false (sym c.is_nothing.ensures.result ∙ c.if-is_nothing.false),
+      next-looks ctx c.args.replacement start c.pass_small-forest.result on refl c.requires.described c.requires.trees _ c.substitute_single_use_symbol_in_expression-first.result c.substitute_single_use_symbol_in_expression-first.ensures.result c.if-forest-eq0.false (sym c.is_nothing.ensures.result ∙ c.if-is_nothing.false),
       c.well_formed,
     )
 
-pub walk_list-returns-then-is_replaced : goal.walk_list-returns-then-is_replaced
-walk_list-returns-then-is_replaced t c =
-    let ctx = context_of (read c.args.file.now) in
-    let on = gone_on t (goal.at.walk_list-returns-then-is_replaced t c).After-pass_small-forest in
+pub walk_list-returns-in-Replaced : goal.walk_list-returns-in-Replaced
+walk_list-returns-in-Replaced t c =
+    let ctx = context_of (read c.args.file.now.bytes.now) in
+    let on = gone_on t (goal.at.walk_list-returns-in-Replaced t c).After-pass_small-forest in
     record {
       result =
           searches_forest ctx c.args.replacement c.args.nodes.now _ c.args.at.0 c.args.many c.args.plan _ c.requires.trees
-          (list_replaced ctx c.args.replacement c.args.nodes.now c.loop-replacement.nodes c.args.at c.args.many c.args.plan c.pass_small-forest.result on _ c.substitute_single_use_symbol_in_expression-first.result c.substitute_single_use_symbol_in_expression-first.ensures.result c.if-trees-eq0.false
-          (sym c.is_nothing.ensures.result ∙ c.if-is_nothing.false) _ (sym c.is_replaced.ensures.result ∙ c.if-is_replaced.true) refl);
+          (list_replaced ctx c.args.replacement c.args.nodes.now c.loop-forest.nodes c.args.at c.args.many c.args.plan c.pass_small-forest.result on _ c.substitute_single_use_symbol_in_expression-first.result c.substitute_single_use_symbol_in_expression-first.ensures.result c.if-forest-eq0.false
+          (sym c.is_nothing.ensures.result ∙ c.if-is_nothing.false) _ _ _ c.in-Replaced.is refl);
     }
 
-pub walk_list-walk_list-others-requires : goal.walk_list-walk_list-others-requires
-walk_list-walk_list-others-requires t c =
-    let at = goal.at.walk_list-walk_list-others-requires t c in
+pub walk_list-walk_list-other-requires : goal.walk_list-walk_list-other-requires
+walk_list-walk_list-other-requires t c =
+    let at = goal.at.walk_list-walk_list-other-requires t c in
     let rest = rest_left t at.After-pass_small-forest in
-    let others = others_left t at.Else-is_replaced rest.0 in
-    (omega (arith, c.decreases, others.1, rest.1), (c.requires.whole, (others.0, c.requires.described)))
+    let others = others_left t at.In-Stopped rest.0 in
+    (omega (arith, c.decreases, others.1, rest.1), (others.0, c.requires.described))
 
 pub walk_list-overflow_add-result : goal.walk_list-overflow_add-result
 walk_list-overflow_add-result t c =
-    let ctx = context_of (read c.args.file.now) in
+    let ctx = context_of (read c.args.file.now.bytes.now) in
     let start = starting c.args.at c.args.many c.args.plan in
     let on = gone_on t (goal.at.walk_list-overflow_add-result t c).After-pass_small-forest in
     let at = goal.at.walk_list-overflow_add-result t c in
     let rest = rest_left t at.After-pass_small-forest in
-    let others = others_left t at.Else-is_replaced rest.0 in
+    let others = others_left t at.In-Stopped rest.0 in
     omega (
       arith,
-      next-looks ctx c.args.replacement start c.pass_small-forest.result on refl c.requires.described c.requires.trees _ c.substitute_single_use_symbol_in_expression-first.result c.substitute_single_use_symbol_in_expression-first.ensures.result c.if-trees-eq0.false (sym c.is_nothing.ensures.result ∙ c.if-is_nothing.false),
-      forest_looks-most ctx All (sought_forest ctx c.args.replacement _ _ _ _ All _ c.walk_list-others.ensures.result) c.requires.described others.0,
-      c.substitute_single_use_symbol_in_expression-first.auto.nodes ∙ c.loop-replacement.invariant.1,
+      next-looks ctx c.args.replacement start c.pass_small-forest.result on refl c.requires.described c.requires.trees _ c.substitute_single_use_symbol_in_expression-first.result c.substitute_single_use_symbol_in_expression-first.ensures.result c.if-forest-eq0.false (sym c.is_nothing.ensures.result ∙ c.if-is_nothing.false),
+      forest_looks-most ctx All (sought_forest ctx c.args.replacement _ _ _ _ All _ c.walk_list-other.ensures.result) c.requires.described others.0,
+      c.substitute_single_use_symbol_in_expression-first.auto.nodes ∙ c.loop-forest.invariant.1,
       c.well_formed,
     )
 
 pub walk_list-returns-then-is_branches : goal.walk_list-returns-then-is_branches
 walk_list-returns-then-is_branches t c =
-    let ctx = context_of (read c.args.file.now) in
+    let ctx = context_of (read c.args.file.now.bytes.now) in
     let on = gone_on t (goal.at.walk_list-returns-then-is_branches t c).After-pass_small-forest in
     record {
       result =
           searches_forest ctx c.args.replacement c.args.nodes.now _ c.args.at.0 c.args.many c.args.plan _ c.requires.trees
-          (list_branches ctx c.args.replacement c.args.nodes.now c.loop-replacement.nodes c.args.at c.args.many c.args.plan c.pass_small-forest.result on _ c.substitute_single_use_symbol_in_expression-first.result c.substitute_single_use_symbol_in_expression-first.ensures.result c.if-trees-eq0.false
-          (sym c.is_nothing.ensures.result ∙ c.if-is_nothing.false) (unpassed c.substitute_single_use_symbol_in_expression-first.result.answer c.in_default.not-Passed) (sym c.is_replaced.ensures.result ∙ c.if-is_replaced.false) _ _
-          c.walk_list-others.result (sym c.is_branches.ensures.result ∙ c.if-is_branches.true) c.walk_list-others.ensures.result (rw c.either.ensures.result refl));
+          (list_branches ctx c.args.replacement c.args.nodes.now c.loop-forest.nodes c.args.at c.args.many c.args.plan c.pass_small-forest.result on _ c.substitute_single_use_symbol_in_expression-first.result c.substitute_single_use_symbol_in_expression-first.ensures.result c.if-forest-eq0.false
+          (sym c.is_nothing.ensures.result ∙ c.if-is_nothing.false) c.in-Stopped.is _ _
+          c.walk_list-other.result (sym c.is_branches.ensures.result ∙ c.if-is_branches.true) c.walk_list-other.ensures.result (rw c.either.ensures.result refl));
     }
 
-pub walk_list-pass_forest-others-requires-in_default : goal.walk_list-pass_forest-others-requires-in_default
-walk_list-pass_forest-others-requires-in_default t c =
-    let at = goal.at.walk_list-pass_forest-others-requires-in_default t c in
+pub walk_list-pass_forest-requires : goal.walk_list-pass_forest-requires
+walk_list-pass_forest-requires t c =
+    let at = goal.at.walk_list-pass_forest-requires t c in
     let rest = rest_left t at.After-pass_small-forest in
-    let others = others_left t at.Else-is_replaced rest.0 in
+    let others = others_left t at.In-Stopped rest.0 in
     record { trees = forest_stands others.0 }
 
-pub walk_list-returns-in_default : goal.walk_list-returns-in_default
-walk_list-returns-in_default t c =
-    let ctx = context_of (read c.args.file.now) in
-    let on = gone_on t (goal.at.walk_list-returns-in_default t c).After-pass_small-forest in
+pub walk_list-returns-in-Stopped : goal.walk_list-returns-in-Stopped
+walk_list-returns-in-Stopped t c =
+    let ctx = context_of (read c.args.file.now.bytes.now) in
+    let on = gone_on t (goal.at.walk_list-returns-in-Stopped t c).After-pass_small-forest in
     record {
       result =
           searches_forest ctx c.args.replacement c.args.nodes.now _ c.args.at.0 c.args.many c.args.plan _ c.requires.trees
-          (list_stopped ctx c.args.replacement c.args.nodes.now c.loop-replacement.nodes c.args.at c.args.many c.args.plan c.pass_small-forest.result on _ c.substitute_single_use_symbol_in_expression-first.result c.substitute_single_use_symbol_in_expression-first.ensures.result c.if-trees-eq0.false
-          (sym c.is_nothing.ensures.result ∙ c.if-is_nothing.false) (unpassed c.substitute_single_use_symbol_in_expression-first.result.answer c.in_default.not-Passed) (sym c.is_replaced.ensures.result ∙ c.if-is_replaced.false) _
-          c.pass_forest-others-in_default.result.next c.pass_forest-others-in_default.result.effect
-          (sym c.is_branches.ensures.result ∙ c.if-is_branches.false) c.pass_forest-others-in_default.ensures.result c.stopped.ensures.result);
+          (list_stopped ctx c.args.replacement c.args.nodes.now c.loop-forest.nodes c.args.at c.args.many c.args.plan c.pass_small-forest.result on _ c.substitute_single_use_symbol_in_expression-first.result c.substitute_single_use_symbol_in_expression-first.ensures.result c.if-forest-eq0.false
+          (sym c.is_nothing.ensures.result ∙ c.if-is_nothing.false) c.in-Stopped.is _
+          c.pass_forest.result.next c.pass_forest.result.effect
+          (sym c.is_branches.ensures.result ∙ c.if-is_branches.false) c.pass_forest.ensures.result c.stopped.ensures.result);
     }
 
-pub walk_list-loop-replacement-smaller : goal.walk_list-loop-replacement-smaller
-walk_list-loop-replacement-smaller t c =
-    let ctx = context_of (read c.args.file.now) in
+pub walk_list-loop-forest-smaller : goal.walk_list-loop-forest-smaller
+walk_list-loop-forest-smaller t c =
+    let ctx = context_of (read c.args.file.now.bytes.now) in
     let start = starting c.args.at c.args.many c.args.plan in
-    let at = goal.at.walk_list-loop-replacement-smaller t c in
+    let at = goal.at.walk_list-loop-forest-smaller t c in
     let rest = rest_left t at.After-pass_small-forest in
-    let before = rest-searchable ctx c.args.replacement start c.loop-replacement.forest c.loop-replacement.invariant.0 c.requires.described c.requires.trees in
-    rw c.forest_behind-forest.ensures.result
+    let before = rest-searchable ctx c.args.replacement start c.loop-forest.forest c.loop-forest.invariant.0 c.requires.described c.requires.trees in
+    rw c.behind-forest.ensures.result
     (omega (
       arith,
-      (others-searchable ctx c.args.replacement c.substitute_single_use_symbol_in_expression-first.ensures.result c.requires.described c.if-trees-eq0.false (ap is_replaced c.in-Passed.is) rest.0).1,
-      (rest-searchable ctx c.args.replacement c.loop-replacement.forest c.pass_small-forest.result c.pass_small-forest.ensures.result c.requires.described before.0).1,
+      (others-searchable ctx c.args.replacement c.substitute_single_use_symbol_in_expression-first.ensures.result c.requires.described c.if-forest-eq0.false (ap is_replaced c.in-Passed.is) rest.0).1,
+      (rest-searchable ctx c.args.replacement c.loop-forest.forest c.pass_small-forest.result c.pass_small-forest.ensures.result c.requires.described before.0).1,
     ))
 
-pub walk_list-loop-replacement-preserved : goal.walk_list-loop-replacement-preserved
-walk_list-loop-replacement-preserved t c =
-    let ctx = context_of (read c.args.file.now) in
+pub walk_list-loop-forest-preserved : goal.walk_list-loop-forest-preserved
+walk_list-loop-forest-preserved t c =
+    let ctx = context_of (read c.args.file.now.bytes.now) in
     let start = starting c.args.at c.args.many c.args.plan in
-    let on = gone_on t (goal.at.walk_list-loop-replacement-preserved t c).After-pass_small-forest in (
-      list_next ctx c.args.replacement c.loop-replacement.nodes _ c.pass_small-forest.result c.substitute_single_use_symbol_in_expression-first.result _ c.substitute_single_use_symbol_in_expression-first.ensures.result (sym c.is_nothing.ensures.result ∙ c.if-is_nothing.false) c.in-Passed.is
-          c.args.nodes.now start _ c.forest_behind-forest.result.plan c.forest_behind-forest.ensures.plan on c.if-trees-eq0.false c.forest_behind-forest.ensures.result,
-      c.substitute_single_use_symbol_in_expression-first.auto.nodes ∙ c.loop-replacement.invariant.1,
+    let on = gone_on t (goal.at.walk_list-loop-forest-preserved t c).After-pass_small-forest in (
+      list_next ctx c.args.replacement c.loop-forest.nodes _ c.pass_small-forest.result c.substitute_single_use_symbol_in_expression-first.result _ c.substitute_single_use_symbol_in_expression-first.ensures.result (sym c.is_nothing.ensures.result ∙ c.if-is_nothing.false) c.in-Passed.is
+          c.args.nodes.now start _ c.behind-forest.result.plan c.behind-forest.ensures.plan on c.if-forest-eq0.false c.behind-forest.ensures.result,
+      c.substitute_single_use_symbol_in_expression-first.auto.nodes ∙ c.loop-forest.invariant.1,
     )

@@ -16,9 +16,9 @@ decreases-substitute_single_use_symbol_in_expression l = 2 * size (tree_at l.nod
 abbrev pub decreases-walk_list : goal.decreases-walk_list
 decreases-walk_list l = 2 * sizes (forest_at l.nodes.now l.at.0 l.many) + 1
 
-abbrev pub invariant-walk_list-loop-replacement : goal.invariant-walk_list-loop-replacement
-invariant-walk_list-loop-replacement l =
-    GoesOn (context_of (read l.file)) l.replacement l.initial.nodes l.nodes l.initial.forest l.forest × (length l.nodes ≡ length l.initial.nodes)
+abbrev pub invariant-walk_list-loop-forest : goal.invariant-walk_list-loop-forest
+invariant-walk_list-loop-forest l =
+    GoesOn (context_of (read l.file.bytes.now)) l.replacement l.initial.nodes l.nodes l.initial.forest l.forest × (length l.nodes ≡ length l.initial.nodes)
 
-abbrev pub decreases-walk_list-loop-replacement : goal.decreases-walk_list-loop-replacement
-decreases-walk_list-loop-replacement l = sizes (forest_at l.nodes l.forest.next.0 l.forest.trees)
+abbrev pub decreases-walk_list-loop-forest : goal.decreases-walk_list-loop-forest
+decreases-walk_list-loop-forest l = sizes (forest_at l.nodes l.forest.next.0 l.forest.trees)

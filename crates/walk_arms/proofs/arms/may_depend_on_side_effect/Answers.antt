@@ -1,23 +1,29 @@
-use Rattle.std.proofs.lemmas.Bool.{eq-eqb, ne_eqb}
-use Rattle.records.specs.File.{read}
-use Rattle.walk_rules.specs.Context.{context_of}
+use native.Mathlib.Omega.{arith}
+use borrow.Author.Tests.{ne_eqb}
+use mathlib.Core.Path.{refl}
 use Rattle.walk_arms.proofs.Targets.{depends_name, depends_object, depends_key, depends_member, depends_other}
 use Rattle.walk_arms.proofs.arms.may_depend_on_side_effect.Goals as goal
 
-pub returns-then-name : goal.returns-then-name
-returns-then-name c = record { result = depends_name (context_of (read c.args.file.now)) c.requires.root (eq-eqb _ _ c.if-name.true) }
+pub returns-in-29 : goal.returns-in-29
+returns-in-29 c = record { result = depends_name _ c.args.target.now.read (rw c.in-29.is refl) }
 
 pub returns-then-member_part_blocks_reorder : goal.returns-then-member_part_blocks_reorder
-returns-then-member_part_blocks_reorder c = record { result = depends_object (context_of (read c.args.file.now)) c.requires.root (ne_eqb _ _ c.if-name.false) (eq-eqb _ _ c.if-computed.true) c.first_child-object.result c.first_child-object.ensures.result c.member_part_blocks_reorder.ensures.result c.if-member_part_blocks_reorder.true }
+returns-then-member_part_blocks_reorder c = record { result = depends_object _ c.args.target.now.read (rw c.in-12.is refl) (rw c.in-12.is refl) c.first_child.result c.first_child.ensures.result c.member_part_blocks_reorder.ensures.result c.if-member_part_blocks_reorder.true }
 
-pub computed_key_blocks_reorder-requires : goal.computed_key_blocks_reorder-requires
-computed_key_blocks_reorder-requires c = record { whole = c.requires.whole }
+pub returns-else-member_part_blocks_reorder : goal.returns-else-member_part_blocks_reorder
+returns-else-member_part_blocks_reorder c = record { result = depends_key _ c.args.target.now.read (rw c.in-12.is refl) (rw c.in-12.is refl) c.first_child.result c.first_child.ensures.result c.member_part_blocks_reorder.ensures.result c.if-member_part_blocks_reorder.false c.second_child.result c.second_child.ensures.result c.computed_key_blocks_reorder.ensures.result }
 
-pub returns-then-computed : goal.returns-then-computed
-returns-then-computed c = record { result = depends_key (context_of (read c.args.file.now)) c.requires.root (ne_eqb _ _ c.if-name.false) (eq-eqb _ _ c.if-computed.true) c.first_child-object.result c.first_child-object.ensures.result c.member_part_blocks_reorder.ensures.result c.if-member_part_blocks_reorder.false c.second_child-key.result c.second_child-key.ensures.result c.computed_key_blocks_reorder.ensures.result }
+pub returns-in-11 : goal.returns-in-11
+returns-in-11 c =
+    let kind = c.args.target.now.root.kind in
+    record { result = depends_member _ c.args.target.now.read (ne_eqb kind 29 (omega arith)) (ne_eqb kind 12 (omega arith)) (grind (arith)) c.first_child-in-11.result c.first_child-in-11.ensures.result c.member_part_blocks_reorder-in-11.ensures.result }
 
-pub returns-then-member : goal.returns-then-member
-returns-then-member c = record { result = depends_member (context_of (read c.args.file.now)) c.requires.root (ne_eqb _ _ c.if-name.false) (ne_eqb _ _ c.if-computed.false) c.if-member.true c.first_child-object-then-member.result c.first_child-object-then-member.ensures.result c.member_part_blocks_reorder-then-member.ensures.result }
+pub returns-in_default : goal.returns-in_default
+returns-in_default c =
+    let kind = c.args.target.now.root.kind in
+    record { result = depends_other _ c.args.target.now.read (ne_eqb kind 29 (omega arith)) (ne_eqb kind 12 (omega arith)) (rw (ne_eqb kind 11 (omega arith), ne_eqb kind 10 (omega arith)) refl) }
 
-pub returns : goal.returns
-returns c = record { result = depends_other (context_of (read c.args.file.now)) c.requires.root (ne_eqb _ _ c.if-name.false) (ne_eqb _ _ c.if-computed.false) c.if-member.false }
+pub returns-in_default-2 : goal.returns-in_default-2
+returns-in_default-2 c =
+    let kind = c.args.target.now.root.kind in
+    record { result = depends_other _ c.args.target.now.read (ne_eqb kind 29 (omega arith)) (ne_eqb kind 12 (omega arith)) (rw (ne_eqb kind 11 (omega arith), ne_eqb kind 10 (omega arith)) refl) }

@@ -2,14 +2,11 @@ use mathlib.Core.Bool.{false}
 use mathlib.Core.Path.{sym, ◌∙◌}
 use native.Mathlib.Omega.{arith}
 use Rattle.records.specs.Tree.{none, more}
-use Rattle.walk_reorder.proofs.Passing.{passing-none, passing-more, passing-all, pending_fits, effect-seen, alone}
+use Rattle.walk_reorder.proofs.Passing.{passing-more, passing-all, tree_fits, effect-seen, alone}
 use Rattle.walk_reorder.proofs.effect.may_have_side_effects.Goals as goal
 
-pub loop-pending-init : goal.loop-pending-init
-loop-pending-init c = passing-none
-
 pub work_node-n-requires : goal.work_node-n-requires
-work_node-n-requires c = record { node = omega (arith, pending_fits (c.loop-pending.invariant c.requires.tree.0 (more c.requires.tree.1 none) c.requires.tree.2 c.requires.tree.3 (alone c.requires.tree.1).0).2) }
+work_node-n-requires c = record { node = omega (arith, tree_fits c.requires.tree c.loop-pending.invariant) }
 
 pub returns-then-has_effect : goal.returns-then-has_effect
 returns-then-has_effect c = record {
@@ -19,19 +16,19 @@ returns-then-has_effect c = record {
 }
 
 pub overflow_add-pending : goal.overflow_add-pending
-overflow_add-pending c = omega (arith, pending_fits (c.loop-pending.invariant c.requires.tree.0 (more c.requires.tree.1 none) c.requires.tree.2 c.requires.tree.3 (alone c.requires.tree.1).0).2, c.size.ensures.result)
+overflow_add-pending c = omega (arith, tree_fits c.requires.tree c.loop-pending.invariant, c.from.ensures)
 
 pub overflow_add-next : goal.overflow_add-next
-overflow_add-next c = omega (arith, pending_fits (c.loop-pending.invariant c.requires.tree.0 (more c.requires.tree.1 none) c.requires.tree.2 c.requires.tree.3 (alone c.requires.tree.1).0).2)
+overflow_add-next c = omega (arith, tree_fits c.requires.tree c.loop-pending.invariant)
 
 pub loop-pending-smaller : goal.loop-pending-smaller
-loop-pending-smaller c = omega (arith, pending_fits (c.loop-pending.invariant c.requires.tree.0 (more c.requires.tree.1 none) c.requires.tree.2 c.requires.tree.3 (alone c.requires.tree.1).0).2)
+loop-pending-smaller c = omega (arith, tree_fits c.requires.tree c.loop-pending.invariant)
 
 pub loop-pending-preserved : goal.loop-pending-preserved
 loop-pending-preserved c =
     λ pre ts rest here due.
     let l = c.loop-pending.invariant pre ts rest here due in
-    passing-more l.1 l.2 c.loop-pending-test.true c.work_node-n.result c.size.result false c.work_node-n.ensures.result c.size.ensures.result.0 (sym c.if-has_effect.false ∙ c.has_effect.ensures.result)
+    passing-more l.1 l.2 c.loop-pending-test.true c.work_node-n.result c.from.result false c.work_node-n.ensures.result c.from.ensures (sym c.if-has_effect.false ∙ c.has_effect.ensures.result)
 
 pub returns : goal.returns
 returns c = record {

@@ -7,14 +7,14 @@ use lib.ListN.{length, take, set, length-set}
 use lib.Seq.{take-suc-set}
 use Rattle.records.specs.Record.{frame_at}
 use Rattle.records.specs.Records.{records_from}
-use Rattle.records_laws.proofs.Series.{records_from_add}
+use Rattle.walk_this.proofs.LastRecord.{last_record}
 use Rattle.walk_this.proofs.body_frames.frames_of.Goals as goal
 
 put-more : {A : Type 0} (readAt : ℕ → A) (len from i : ℕ) (xs : List A) (x : A) → i < length xs → take i xs ≡ records_from readAt len i from → x ≡ readAt (from + len * i)
     → take (i + 1) (set xs i x) ≡ records_from readAt len (i + 1) from
-unfolding records_from
-put-more readAt len from i xs x h e ex = let k : i + 1 ≡ suc i = omega arith in
-    rw k (take-suc-set xs i x h ∙ ap₂ ◌++◌ e (ap (λ y. y ∷ []) ex)) ∙ sym (records_from_add readAt len i 1 from)
+put-more readAt len from i xs x h e ex =
+    let k : i + 1 ≡ suc i = omega arith in
+    rw k (take-suc-set xs i x h) ∙ ap₂ ◌++◌ e (ap (λ y. y ∷ []) ex) ∙ sym (last_record readAt len i from)
 
 pub loop-i-init : goal.loop-i-init
 unfolding records_from
@@ -24,9 +24,3 @@ pub loop-i-preserved : goal.loop-i-preserved
 loop-i-preserved c =
     let l = c.loop-i in
     (omega arith, length-set l.frames l.i c.frame_at.result ∙ l.invariant.1, put-more (frame_at _) 8 _ l.i l.frames c.frame_at.result (omega arith) l.invariant.2 c.frame_at.ensures.result)
-
-pub returns : goal.returns
-returns c =
-    let l = c.loop-i in
-    let all : c.args.count ≡ l.i = omega arith in
-    record { result = rw all l.invariant.2 }

@@ -1,0 +1,6 @@
+use Rattle.records.specs.File.{declarators_of}
+use Rattle.records.proofs.record_file.RecordFile.declarators.Goals as goal
+
+pub returns-clause-records : goal.returns-clause-records
+unfolding declarators_of
+returns-clause-records c = rw (c.part_offsets.ensures.result, c.from.ensures, c.args.self.now.whole.0)
