@@ -16,6 +16,7 @@ pub struct Part<'a, const LENGTH: usize> {
     pub ghost inside: { from + LENGTH * count ≤ length file.now },
 }
 
+// One method for each part: callers say its name, and its clause has the definition of its own records.
 impl RecordFile<'_> {
     pub fn name_facts(&self) -> Part<'_, NAME_LENGTH>
         ensures records { facts_from result.file.now result.from result.count ≡ names_of self.now.bytes.now }

@@ -16,7 +16,7 @@ use records::limits::{MAX_NAMES, MAX_NODES};
 use records::record_file::RecordFile;
 use records_tests::header::{not_a_record_file, other_length, other_version, outside_limits};
 
-// Rows 5 to 11, over a stack with a place for each node.
+// Rows 5 to 11, over a stack with a place for each node. `stack` stays a clause, also below: it is about a lent slice and the header.
 fn check(headed: &HeadedFile<'_>, room: usize, stack: &mut [u16]) -> Result<(), Refusal>
     requires stack { headed.now.file.header.nodes ≤ length stack.old }
     ensures result { number result ≡ refusalOf headed.now.file.bytes.now room }

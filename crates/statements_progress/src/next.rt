@@ -10,6 +10,7 @@ use records::limits::DECLARATOR_LENGTH;
 use records::parts::part_offsets;
 use records_table::load::load_tree;
 
+// The bytes and the header are two parameters, here and below: a `RecordFile` asks more than these clauses do.
 pub fn next_declarator(bytes: &[u8], header: Header, p: Progress) -> DeclaratorRecord
     requires room { declarators_start header + 4 * p.declarators_read + 4 ≤ length bytes.now }
     ensures result { result ≡ declarator_at bytes.now (declarators_start header + 4 * p.declarators_read) }

@@ -150,6 +150,7 @@ pub fn shape_of(n: NodeRecord) -> Shape
     }
 }
 
+// Each is one `matches!`, as those of `Plan` are.
 impl Shape {
     pub fn is_assignment(self) -> bool
         ensures result { result ≡ is_assignment self }

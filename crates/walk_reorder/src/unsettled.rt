@@ -59,7 +59,7 @@ fn is_written(n: NameFacts) -> bool
     n.is_mutated()
 }
 
-// An import, of scope 0 in a script, or written.
+// An import, of scope 0 in a script, or written. The bytes and the header are two parameters: a `RecordFile` asks more than `header`.
 #[tactic(auto, unfolding(walk_rules::specs::Unsettled::symbol_value_may_change, walk_rules::specs::Context::context_of, records::specs::File::read))]
 pub fn symbol_value_may_change(bytes: &[u8], header: Header, n: NameFacts) -> bool
     requires header { header ≡ header_of bytes.now }

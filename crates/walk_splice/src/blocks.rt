@@ -13,7 +13,7 @@ use records::limits::NO_NUMBER;
 use records::put_number::put_u32;
 use records_table::{WORK_LENGTH, put_work_node};
 
-// Gives the record of node `at` a position.
+// Gives the record of node `at` a position. `record` stays a clause, here and in the walk: it is about an index and a slice.
 pub(crate) fn put_position(nodes: &mut [u8], at: NodeId, position: u32)
     requires record { 16 * at.0 + 16 ≤ length nodes.old }
     ensures written { Overwrites nodes.old nodes.new (16 * at.0 + 8) (u32_bytes position) }
