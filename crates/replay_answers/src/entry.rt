@@ -1,5 +1,5 @@
 // The entries of a list of answers.
-ghost use Rattle.std.specs.Prelude.{◌≡◌, ◌≤◌, replicate, length, ◌≢◌, IfOk, IfSome, IfErr};
+ghost use Rattle.std.specs.Prelude.{◌≤◌, length, ◌≢◌, IfOk, IfSome, IfErr};
 ghost use Rattle.std.specs.IoError.{error_kind};
 ghost use Rattle.std.specs.declared.io.ErrorKind.TheVariants.{UnexpectedEof};
 
@@ -19,28 +19,6 @@ const HEAD_LENGTH: usize = 40;
 
 // No list has more entries; what is behind them isn't read.
 pub const MOST_ENTRIES: usize = 1_000_000;
-
-// What an entry's file, the fold's result and the repeat's are read to.
-#[derive(Drop)]
-pub struct Buffers {
-    pub file: [u8; LONGEST],
-    pub result: [u8; LONGEST],
-    pub steady: [u8; LONGEST],
-}
-
-impl Buffers {
-    pub fn new() -> Self
-        ensures file { result.file ≡ replicate 65536 0 }
-        ensures result_bytes { result.result ≡ replicate 65536 0 }
-        ensures steady { result.steady ≡ replicate 65536 0 }
-    {
-        Self {
-            file: [0; LONGEST],
-            result: [0; LONGEST],
-            steady: [0; LONGEST],
-        }
-    }
-}
 
 // An entry: its place in the list; the file, the fold's result and the repeat's; the length of the output that is offered; what
 // the fold, the repeat and measuring are to return.
@@ -71,11 +49,8 @@ fn room_of(number: usize) -> usize
 }
 
 // So many bytes from the list, to the start of `to`; their number, if a list may have so many and this one does.
-fn read_bytes(
-    reader: &mut impl Read,
-    count: usize,
-    to: &mut [u8; LONGEST],
-) -> io::Result<Option<usize>>
+fn read_bytes(reader: &mut impl Read, count: usize, to: &mut [u8]) -> io::Result<Option<usize>>
+    requires to { 65536 ≤ length to.old }
     ensures length { IfOk result (λ o. IfSome o (λ n. n ≤ 65536)) }
     ensures err { IfErr result (λ e. error_kind e ≢ UnexpectedEof) }
 {
@@ -91,9 +66,10 @@ fn read_result(
     reader: &mut impl Read,
     count: usize,
     before: &[u8],
-    to: &mut [u8; LONGEST],
+    to: &mut [u8],
 ) -> io::Result<Option<usize>>
     requires before { length before.now ≤ 65536 }
+    requires to { 65536 ≤ length to.old }
     ensures length { IfOk result (λ o. IfSome o (λ n. n ≤ 65536)) }
     ensures err { IfErr result (λ e. error_kind e ≢ UnexpectedEof) }
 {
@@ -104,37 +80,41 @@ fn read_result(
     read_bytes(reader, count, to)
 }
 
-// Reads the next entry, with this place in the list; none behind the last one, and if the bytes aren't an entry. An error is the
-// reader's, and no end of the list; the buffers may then have some of what was read.
+// Reads the next entry, with this place in the list, its file, the fold's result and the repeat's each to the start of its buffer;
+// none behind the last one, and if the bytes aren't an entry. An error is the reader's, and no end of the list; the buffers may then
+// have some of what was read.
 pub fn read_entry<'a>(
     reader: &mut impl Read,
     index: usize,
-    buffers: &'a mut Buffers,
+    file: &'a mut [u8],
+    res: &'a mut [u8],
+    steady: &'a mut [u8],
 ) -> io::Result<Option<Entry<'a>>>
+    requires file { 65536 ≤ length file.old }
+    requires res { 65536 ≤ length res.old }
+    requires steady { 65536 ≤ length steady.old }
     ensures err { IfErr result (λ e. error_kind e ≢ UnexpectedEof) }
 {
     let mut head = [0u8; HEAD_LENGTH];
     if !read_whole(reader, &mut head)? {
         return Ok(None);
     }
-    let Some(file) = read_bytes(reader, number_at(&head, 16), &mut buffers.file)? else {
+    let Some(file_end) = read_bytes(reader, number_at(&head, 16), file)? else {
         return Ok(None);
     };
-    let before = &buffers.file[..file];
-    let Some(result) = read_result(reader, number_at(&head, 20), before, &mut buffers.result)?
-    else {
+    let before = &file[..file_end];
+    let Some(end) = read_result(reader, number_at(&head, 20), before, res)? else {
         return Ok(None);
     };
-    let before = &buffers.result[..result];
-    let Some(steady) = read_result(reader, number_at(&head, 32), before, &mut buffers.steady)?
-    else {
+    let before = &res[..end];
+    let Some(steady_end) = read_result(reader, number_at(&head, 32), before, steady)? else {
         return Ok(None);
     };
     Ok(Some(Entry {
         index,
-        file: &buffers.file[..file],
-        result: &buffers.result[..result],
-        steady: &buffers.steady[..steady],
+        file: &file[..file_end],
+        result: &res[..end],
+        steady: &steady[..steady_end],
         room: room_of(number_at(&head, 0)),
         number: number_at(&head, 4),
         folds: number_at(&head, 8),

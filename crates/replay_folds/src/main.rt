@@ -10,7 +10,7 @@ mod totals;
 use output::{other_bytes, prepare};
 use records_refusal::outcome::Refusal;
 use replay_answers::compare::compare;
-use replay_answers::entry::{Buffers, Entry, LONGEST, MOST_ENTRIES, read_entry};
+use replay_answers::entry::{Entry, LONGEST, MOST_ENTRIES, read_entry};
 use returned::{MeasuredNumbers, Returned};
 use statements_fold::fold;
 use statements_measure::measure;
@@ -56,12 +56,14 @@ fn replay_measure(rt: &impl Print, e: Entry<'_>) -> io::Result<MeasuredNumbers> 
 
 fn main(rt: HostRuntime) -> io::Result<()> {
     let mut reader = rt.reader();
-    let mut buffers = Buffers::new();
+    let mut file = [0u8; LONGEST];
+    let mut result = [0u8; LONGEST];
+    let mut steady = [0u8; LONGEST];
     let mut output = [0u8; LONGEST];
     let mut totals = AllTotals::default();
     let mut entries = 0;
     for index in 0..MOST_ENTRIES {
-        let Some(e) = read_entry(&mut reader, index, &mut buffers)? else {
+        let Some(e) = read_entry(&mut reader, index, &mut file, &mut result, &mut steady)? else {
             break;
         };
         let output = &mut output[..e.room];

@@ -7,17 +7,19 @@ mod tally;
 use records_refusal::check::refusal;
 use records_refusal::outcome::number_of;
 use replay_answers::compare::compare;
-use replay_answers::entry::{Buffers, MOST_ENTRIES, read_entry};
+use replay_answers::entry::{LONGEST, MOST_ENTRIES, read_entry};
 use std::io;
 use tally::Tally;
 
 fn main(rt: HostRuntime) -> io::Result<()> {
     let mut reader = rt.reader();
-    let mut buffers = Buffers::new();
+    let mut file = [0u8; LONGEST];
+    let mut result = [0u8; LONGEST];
+    let mut steady = [0u8; LONGEST];
     let mut tally = Tally::default();
     let mut files = 0;
     for index in 0..MOST_ENTRIES {
-        let Some(e) = read_entry(&mut reader, index, &mut buffers)? else {
+        let Some(e) = read_entry(&mut reader, index, &mut file, &mut result, &mut steady)? else {
             break;
         };
         let is = number_of(refusal(e.file, e.room));
