@@ -87,21 +87,7 @@ module _ (bs : List ℕ) where
   unfolding header_refusal refusal
   header_refuses number e h room = header-refuses (not_a_record_file bs) (other_version (header_of bs)) (outside_limits (header_of bs)) (other_length bs (header_of bs)) number _ h e
 
--- the rows behind them
-pub rows_behind : (bs : List ℕ) (h : Header) (room : ℕ) → HeaderPasses bs h
-    → row 5 (bad_facts (names_of bs) (scopes_of bs) (frames_of bs))
-    (row 6 (bad_statements (names_of bs) (declarators_of bs) (statements_of bs))
-    (row 7 (bad_nodes (names_of bs) (nodes_of bs))
-    (row 8 (bad_trees (declarators_of bs) (statements_of bs) (nodes_of bs))
-    (row 9 (declared_twice (declarators_of bs))
-    (row 10 (bad_counts (names_of bs) (forest_of (nodes_of bs)))
-    (row 11 (ltb room (room_wanted bs))
-    0))))))
-    ≡ refusal bs room
-unfolding refusal
-rows_behind bs h room p = rw (p.script, ← p.is, p.version, p.limits, p.measured)
-
--- rows 5 to 8 refuse nothing: what is left are rows 9 to 11
+-- rows 9 to 11
 abbrev last_rows : List ℕ → ℕ → ℕ
 last_rows bs room =
     row 9 (declared_twice (declarators_of bs))
@@ -109,6 +95,18 @@ last_rows bs room =
     (row 11 (ltb room (room_wanted bs))
     0))
 
+-- the rows behind those of the header
+pub rows_behind : (bs : List ℕ) (h : Header) (room : ℕ) → HeaderPasses bs h
+    → row 5 (bad_facts (names_of bs) (scopes_of bs) (frames_of bs))
+    (row 6 (bad_statements (names_of bs) (declarators_of bs) (statements_of bs))
+    (row 7 (bad_nodes (names_of bs) (nodes_of bs))
+    (row 8 (bad_trees (declarators_of bs) (statements_of bs) (nodes_of bs))
+    (last_rows bs room))))
+    ≡ refusal bs room
+unfolding refusal
+rows_behind bs h room p = rw (p.script, ← p.is, p.version, p.limits, p.measured)
+
+-- where rows 5 to 8 refuse nothing, rows 9 to 11 say the number
 pub past_8 : (bs : List ℕ) (h : Header) (room : ℕ) → HeaderPasses bs h → {facts : Bool} → facts ≡ bad_facts (names_of bs) (scopes_of bs) (frames_of bs) → facts ≡ false
     → 0 ≡ row 6 (bad_statements (names_of bs) (declarators_of bs) (statements_of bs)) 0
     → 0 ≡ row 7 (bad_nodes (names_of bs) (nodes_of bs)) (row 8 (bad_trees (declarators_of bs) (statements_of bs) (nodes_of bs)) 0)
