@@ -7,13 +7,16 @@ use records::limits::{DECLARATOR_LENGTH, HEADER_LENGTH, NODE_LENGTH, STATEMENT_L
 use records::parts::part_offsets;
 use std::io;
 
-// How many trees a statement with these declarators has: one for each initializer.
-fn trees_of(s: StatementRecord, declarators: &[[u8; DECLARATOR_LENGTH]]) -> usize {
+// How many trees a statement has, whose declarators these begin with: one for each initializer.
+fn trees_of(s: StatementRecord, declarators: &[[u8; DECLARATOR_LENGTH]]) -> usize
+    ensures result { result ≤ 65535 }
+{
     if s.kind == EXPRESSION_STATEMENT {
         return 1;
     }
     declarators
         .iter()
+        .take(usize::from(s.declarators))
         .filter(|record| declarator_at(*record, 0).present == 1)
         .count()
 }

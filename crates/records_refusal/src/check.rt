@@ -22,26 +22,30 @@ fn check(headed: &HeadedFile<'_>, room: usize, stack: &mut [u16]) -> Result<(), 
     ensures result { number result ≡ refusalOf headed.now.file.bytes.now room }
 {
     let file = &headed.file;
-    if facts_are_bad(file) {
+    let bad = facts_are_bad(file);
+    let short = room_is_short(file, room);
+    if bad {
         return Err(Refusal::BadFacts);
     }
-    let trees = statement_row(file)?;
+    let statements = statement_row(file);
+    statements.row?;
     let mut reads = [0u16; MAX_NAMES as usize];
     let mut targets = [0u16; MAX_NAMES as usize];
-    node_rows(headed, trees, stack, &mut reads, &mut targets)?;
+    node_rows(headed, statements.trees, stack, &mut reads, &mut targets)?;
     if names_are_declared_twice(file) {
         return Err(Refusal::DeclaredTwice);
     }
     if counts_are_bad(file, &reads, &targets) {
         return Err(Refusal::BadCounts);
     }
-    if room_is_short(file, room) {
+    if short {
         return Err(Refusal::NoRoom);
     }
     Ok(())
 }
 
-// The same, with a stack for `N` nodes.
+// The same, with a stack for `N` nodes. It is kept a function of its own, so that a small file doesn't take the large stack's frame.
+#[inline(never)]
 fn check_over<const N: usize>(headed: &HeadedFile<'_>, room: usize) -> Result<(), Refusal>
     requires size { N * 2 < 9223372036854775808 }
     requires stack { headed.now.file.header.nodes ≤ N }
@@ -76,10 +80,12 @@ pub fn read_header(bytes: &[u8]) -> Result<HeadedFile<'_>, Refusal>
         return Err(Refusal::NotARecordFile);
     }
     let header = header_of(bytes);
-    if other_version(header) {
+    let other = other_version(header);
+    let outside = outside_limits(header);
+    if other {
         return Err(Refusal::OtherVersion);
     }
-    if outside_limits(header) {
+    if outside {
         return Err(Refusal::OutsideLimits);
     }
     if other_length(bytes, header) {

@@ -1,5 +1,5 @@
 // Rows 5 to 11 of the refusal table, each over all the records that it is about.
-ghost use Rattle.std.specs.Prelude.{◌≡◌, true, ◌+◌, ◌≤◌, ◌<◌, length, ltb, IfOk, OnOk};
+ghost use Rattle.std.specs.Prelude.{◌≡◌, true, ◌+◌, ◌≤◌, ◌<◌, length, ltb, OnOk};
 ghost use Rattle.records.specs.Records.{every};
 ghost use Rattle.records.specs.Facts.{bad_facts};
 ghost use Rattle.records.specs.Script.{bad_statements, declared_twice};
@@ -36,12 +36,19 @@ pub fn facts_are_bad(file: &RecordFile<'_>) -> bool
     !(good_names & good_scopes & good_frames)
 }
 
-// Row 6: how many trees the declarators and statements have, of a file that it doesn't refuse.
-pub fn statement_row(file: &RecordFile<'_>) -> Result<usize, Refusal>
+// What row 6 says, and how many trees the declarators and statements have, also of a file that it refuses.
+#[derive(Clone, Copy)]
+pub struct StatementRow {
+    pub row: Result<(), Refusal>,
+    pub trees: usize,
+}
+
+// Row 6.
+pub fn statement_row(file: &RecordFile<'_>) -> StatementRow
     ensures row { let bs = file.now.bytes.now in
-        number result ≡ row 6 (bad_statements (names_of bs) (declarators_of bs) (statements_of bs)) 0 }
+        number result.row ≡ row 6 (bad_statements (names_of bs) (declarators_of bs) (statements_of bs)) 0 }
     ensures trees { let bs = file.now.bytes.now in
-        IfOk result (λ trees. trees ≡ initializers (declarators_of bs) + expressions (statements_of bs)) }
+        result.trees ≡ initializers (declarators_of bs) + expressions (statements_of bs) }
 {
     let names = Names {
         file: file.bytes,
@@ -50,10 +57,14 @@ pub fn statement_row(file: &RecordFile<'_>) -> Result<usize, Refusal>
     let declarators = file.declarators();
     let d = declarator_totals(&names, &declarators);
     let s = statement_totals(&file.statements());
+    let trees = d.initializers + s.expressions;
     if d.good & s.good & (s.declarators == declarators.count) {
-        Ok(d.initializers + s.expressions)
+        StatementRow { row: Ok(()), trees }
     } else {
-        Err(Refusal::BadStatements)
+        StatementRow {
+            row: Err(Refusal::BadStatements),
+            trees,
+        }
     }
 }
 
@@ -79,9 +90,10 @@ pub fn node_rows(
     ensures targets { let forest = forest_of (nodes_of headed.now.file.bytes.now) in
         OnOk result (Tally (λ k. targets_of k forest) targets.new) }
 {
-    let top = scan_nodes(headed, stack, reads, targets)?;
-    let found = stack.len() - top;
-    if (found == trees) & roots_stand(stack, top, found) {
+    let scan = scan_nodes(headed, stack, reads, targets);
+    scan.row?;
+    let found = stack.len() - scan.top;
+    if (found == trees) & roots_stand(stack, scan.top, found) {
         Ok(())
     } else {
         Err(Refusal::BadTrees)

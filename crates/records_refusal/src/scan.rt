@@ -1,5 +1,5 @@
 // The nodes of a file in one pass, from the last to the first, for rows 7, 8 and 10 of the refusal table.
-ghost use Rattle.std.specs.Prelude.{◌≡◌, ◌≤◌, not, length, IfOk};
+ghost use Rattle.std.specs.Prelude.{◌≡◌, ◌≤◌, not, length, OnOk};
 ghost use Rattle.records.specs.File.{names_of, nodes_of, nodes_start};
 ghost use Rattle.records.specs.Node.{bad_nodes};
 ghost use Rattle.records.specs.Refusal.{row};
@@ -93,33 +93,50 @@ fn nodes_are_good(
     }
 }
 
-// Row 7, and the first half of row 8: where on the stack the entries of all trees begin. Where the children of a node can't stand,
-// the nodes before it are asked for row 7 alone.
+// What row 7 and the first half of row 8 say, and where on the stack the entries of all trees begin: at its end, where one of them
+// refuses the nodes.
+#[derive(Clone, Copy)]
+pub struct Scan {
+    pub row: Result<(), Refusal>,
+    pub top: usize,
+}
+
+// Row 7, and the first half of row 8. Where the children of a node can't stand, the nodes before it are asked for row 7 alone.
 pub fn scan_nodes(
     headed: &HeadedFile<'_>,
     stack: &mut [u16],
     reads: &mut [u16],
     targets: &mut [u16],
-) -> Result<usize, Refusal>
+) -> Scan
     requires stack { headed.now.file.header.nodes ≤ length stack.old }
     requires places { (length reads.old ≤ 65535) × (length targets.old ≤ 65535) }
     requires no_reads { Tally (λ k. 0) reads.old }
     requires no_targets { Tally (λ k. 0) targets.old }
     ensures rows { let bs = headed.now.file.bytes.now in
-        number result ≡ row 7 (bad_nodes (names_of bs) (nodes_of bs)) (row 8 (not (good_trees (nodes_of bs))) 0) }
-    ensures top { IfOk result (λ top. top ≤ length stack.old) }
+        number result.row ≡ row 7 (bad_nodes (names_of bs) (nodes_of bs)) (row 8 (not (good_trees (nodes_of bs))) 0) }
+    ensures top { result.top ≤ length stack.old }
     ensures taken { let nodes = nodes_of headed.now.file.bytes.now in
-        IfOk result (λ top. Taken nodes reads.old targets.old stack.new reads.new targets.new top) }
+        OnOk result.row (Taken nodes reads.old targets.old stack.new reads.new targets.new result.top) }
 {
     let file = &headed.file;
+    let end = stack.len();
     match scan_trees(file, usize::from(file.header.nodes), stack, reads, targets) {
-        Ok(top) => Ok(top),
-        Err(Stop::BadNode) => Err(Refusal::BadNodes),
+        Ok(top) => Scan { row: Ok(()), top },
+        Err(Stop::BadNode) => Scan {
+            row: Err(Refusal::BadNodes),
+            top: end,
+        },
         Err(Stop::BadTree(before)) => {
             if nodes_are_good(file, before, stack, reads, targets) {
-                Err(Refusal::BadTrees)
+                Scan {
+                    row: Err(Refusal::BadTrees),
+                    top: end,
+                }
             } else {
-                Err(Refusal::BadNodes)
+                Scan {
+                    row: Err(Refusal::BadNodes),
+                    top: end,
+                }
             }
         }
     }

@@ -15,7 +15,7 @@ pub const LONGEST: usize = 65536;
 const SAME: usize = 4294967295;
 
 // The length of an entry's head.
-const HEAD_LENGTH: usize = 40;
+pub const HEAD_LENGTH: usize = 40;
 
 // No list has more entries; what is behind them isn't read.
 pub const MOST_ENTRIES: usize = 1_000_000;
@@ -81,8 +81,9 @@ fn read_result(
 }
 
 // Reads the next entry, with this place in the list, its file, the fold's result and the repeat's each to the start of its buffer;
-// none behind the last one, and if the bytes aren't an entry. An error is the reader's, and no end of the list; the buffers may then
-// have some of what was read.
+// none behind the last one, and if the bytes aren't an entry. What the list may not have isn't read, and what comes behind it is read
+// all the same, so that the reader's error there is told. An error is the reader's, and no end of the list; the buffers may then have
+// some of what was read.
 pub fn read_entry<'a>(
     reader: &mut impl Read,
     index: usize,
@@ -99,15 +100,12 @@ pub fn read_entry<'a>(
     if !read_whole(reader, &mut head)? {
         return Ok(None);
     }
-    let Some(file_end) = read_bytes(reader, number_at(&head, 16), file)? else {
-        return Ok(None);
-    };
-    let before = &file[..file_end];
-    let Some(end) = read_result(reader, number_at(&head, 20), before, res)? else {
-        return Ok(None);
-    };
-    let before = &res[..end];
-    let Some(steady_end) = read_result(reader, number_at(&head, 32), before, steady)? else {
+    let file_end = read_bytes(reader, number_at(&head, 16), file)?;
+    let before = &file[..file_end.unwrap_or(0)];
+    let end = read_result(reader, number_at(&head, 20), before, res)?;
+    let before = &res[..end.unwrap_or(0)];
+    let steady_end = read_result(reader, number_at(&head, 32), before, steady)?;
+    let (Some(file_end), Some(end), Some(steady_end)) = (file_end, end, steady_end) else {
         return Ok(None);
     };
     Ok(Some(Entry {

@@ -7,7 +7,7 @@ use records::number::u32_at;
 use std::io;
 use std::io::{ErrorKind, Read};
 
-pub fn number_at(bytes: &[u8], at: usize) -> usize
+pub(crate) fn number_at(bytes: &[u8], at: usize) -> usize
     requires room { at + 4 ≤ length bytes.now }
 {
     u32_at(bytes, at) as usize

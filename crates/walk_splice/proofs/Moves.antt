@@ -1,14 +1,20 @@
--- A tag that moves for two records. Assumes nothing.
-use mathlib.Core.Path.{◌≡◌, ◌∙◌}
+-- A block that is written, and a tag that moves for two records. Assumes nothing.
+use mathlib.Core.Path.{◌≡◌, refl, ◌∙◌}
 use mathlib.Core.List.{List, ◌++◌, append_assoc}
-use Prim.Native.Nat.{ℕ, ◌+◌}
+use Prim.Native.Nat.{ℕ, ◌+◌, ◌-◌}
 use native.Mathlib.Omega.{arith}
-use lib.ListN.{length-append}
+use borrow.Rule.Slice.PartMut.{mid_of, put_mid}
+use lib.ListN.{length, drop, length-append}
 use Rattle.records_table.specs.Table.{work_bytes}
 use Rattle.records_table.proofs.Laid.{work_length}
 use Rattle.records_table.specs.Overwrites.{Overwrites}
-use Rattle.records_table.proofs.Overwriting.{two-written}
+use Rattle.records_table.proofs.Overwriting.{overwritten, two-written}
 use Rattle.walk_splice.specs.Blocks.{Exchanges, sequence_record, literal_record, PreservesIndirectAccess}
+
+-- a whole block, copied to a part from `at` on
+pub block_written : (at : ℕ) (bs block ys : List ℕ) → ys ≡ block ++ drop (length block) (mid_of at (length bs - at) bs)
+    → Overwrites bs (put_mid at (length bs - at) bs ys) at block
+block_written at bs block ys e = overwritten at (length block) bs block ys refl e
 
 -- a tag that is kept indirect: first the free record comes before the name's, then the two before the tag, and two others are
 -- written in their place

@@ -5,6 +5,7 @@
 
 mod blocks;
 mod rotate;
+mod shift;
 
 ghost use Rattle.std.specs.Prelude.{true, ◌≡◌, ◌+◌, ◌*◌, ◌≤◌, length};
 ghost use Rattle.walk_splice.specs.Splice.{HoldsName, Splices};

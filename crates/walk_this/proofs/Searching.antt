@@ -1,14 +1,16 @@
 -- Frames that are searched from the last. Assumes nothing.
-use mathlib.Core.Path.{◌≡◌, refl, sym, ◌∙◌}
+use mathlib.Core.Path.{◌≡◌, refl, sym, ap, ◌∙◌}
 use mathlib.Core.Bool.{Bool, true, false, not, ◌&&◌, or-true}
 use mathlib.Core.List.{List, [], ◌∷◌, ◌++◌, append-nil, append_assoc}
-use Prim.Native.Nat.{ℕ, ◌≤◌}
+use Prim.Native.Nat.{ℕ, ◌+◌, ◌*◌, ◌≤◌}
 use native.Mathlib.Omega.{arith}
 use lib.Dec.{eqb}
-use lib.ListN.{length}
+use lib.ListN.{length, get_or}
+use lib.Seq.{ext_get_or}
 use Rattle.records.specs.Limits.{no_number}
-use Rattle.records.specs.Records.{every, every_from}
+use Rattle.records.specs.Records.{records_from, every, every_from}
 use Rattle.records.specs.declared.layout.Frame.{Frame}
+use Rattle.records.proofs.Series.{record_at, records-length}
 use Rattle.records.proofs.Tests.{neither, every_cons}
 use Rattle.walk_rules.specs.This.{has_owner, frames_from_owner, is_initialised_at, this_blocks}
 
@@ -64,3 +66,10 @@ module _ {scope position : ℕ} {frames : List Frame} where
   unfolding this_blocks every_from
   searched-all [] over p n = rw (n, none_owned scope frames (rw p.whole p.unowned)) refl
   searched-all (f ∷ front) over p n = absurd (omega (arith, over))
+
+-- the elements of a list are its records
+pub records_of_list : {A : Type 0} (d : A) (xs : List A) → records_from (λ i. get_or xs i d) 1 (length xs) 0 ≡ xs
+records_of_list d xs =
+    let long = records-length (λ i. get_or xs i d) 1 (length xs) 0 in
+    ext_get_or d (records_from (λ i. get_or xs i d) 1 (length xs) 0) xs long (λ i h.
+    let at : 0 + 1 * i ≡ i = omega arith in record_at (λ k. get_or xs k d) 1 (length xs) i 0 d (omega (arith, h, long)) ∙ ap (λ (k : ℕ). get_or xs k d) at)

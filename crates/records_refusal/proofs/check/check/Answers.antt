@@ -6,18 +6,18 @@ use Rattle.records_refusal.proofs.Limits.{names-fit, file-declarators_fit}
 use Rattle.records_refusal.proofs.Rows.{refuses, refused, passed, statements-pass, statements-refuse, nodes-refuse, rows_behind, past_8}
 use Rattle.records_refusal.proofs.check.check.Goals as goal
 
-pub returns-then-facts_are_bad : goal.returns-then-facts_are_bad
-returns-then-facts_are_bad c = record {
-  result = refused 5 _ c.facts_are_bad.ensures.result c.if-facts_are_bad.true ∙ rows_behind _ _ c.args.room c.args.headed.now.passes;
+pub returns-then-bad : goal.returns-then-bad
+returns-then-bad c = record {
+  result = refused 5 _ c.facts_are_bad-bad.ensures.result c.if-bad.true ∙ rows_behind _ _ c.args.room c.args.headed.now.passes;
 }
 
-pub returns-in_err-trees : goal.returns-in_err-trees
-returns-in_err-trees c =
+pub returns-in_err-statements : goal.returns-in_err-statements
+returns-in_err-statements c =
     let p = err_from_is_err_and c.from_residual.result c.from_residual.ensures.1 in
     record {
       result = rw (p.1, p.2)
-          (passed 5 c.facts_are_bad.ensures.result c.if-facts_are_bad.false
-          (statements-refuse _ _ (refuses c.in_err-trees.field-0.0) c.in_err-trees.ensures.row)
+          (passed 5 c.facts_are_bad-bad.ensures.result c.if-bad.false
+          (statements-refuse _ _ (refuses c.in_err-statements.field-0.0) (rw c.in_err-statements.was at c.statement_row-statements.ensures.row))
           ∙ rows_behind _ _ c.args.room c.args.headed.now.passes);
     }
 
@@ -26,18 +26,18 @@ returns-in_err-node_rows c =
     let p = err_from_is_err_and c.from_residual-in_err-node_rows.result c.from_residual-in_err-node_rows.ensures.1 in
     record {
       result = rw (p.1, p.2)
-          (passed 5 c.facts_are_bad.ensures.result c.if-facts_are_bad.false
-          (passed 6 (statements-pass _ c.in_ok-trees.ensures.row) refl
+          (passed 5 c.facts_are_bad-bad.ensures.result c.if-bad.false
+          (passed 6 (statements-pass _ (rw c.in_ok-statements.was at c.statement_row-statements.ensures.row)) refl
           (nodes-refuse _ _ _ (refuses c.in_err-node_rows.field-0.0) c.in_err-node_rows.ensures.rows))
           ∙ rows_behind _ _ c.args.room c.args.headed.now.passes);
     }
 
 pub names_are_declared_twice-requires : goal.names_are_declared_twice-requires
-names_are_declared_twice-requires c = record { names = file-declarators_fit c.args.headed.now.file.bytes.now c.args.headed.now.file.header c.args.headed.now.passes.is c.args.headed.now.passes.limits (sym (statements-pass _ c.in_ok-trees.ensures.row)) }
+names_are_declared_twice-requires c = record { names = file-declarators_fit c.args.headed.now.file.bytes.now c.args.headed.now.file.header c.args.headed.now.passes.is c.args.headed.now.passes.limits (sym (statements-pass _ (rw c.in_ok-statements.was at c.statement_row-statements.ensures.row))) }
 
 pub returns-then-names_are_declared_twice : goal.returns-then-names_are_declared_twice
 returns-then-names_are_declared_twice c = record {
-  result = past_8 _ _ c.args.room c.args.headed.now.passes c.facts_are_bad.ensures.result c.if-facts_are_bad.false c.in_ok-trees.ensures.row c.in_ok-node_rows.ensures.rows
+  result = past_8 _ _ c.args.room c.args.headed.now.passes c.facts_are_bad-bad.ensures.result c.if-bad.false (rw c.in_ok-statements.was at c.statement_row-statements.ensures.row) c.in_ok-node_rows.ensures.rows
       (refused 9 _ c.names_are_declared_twice.ensures.result c.if-names_are_declared_twice.true);
 }
 
@@ -55,23 +55,23 @@ counts_are_bad-requires-clause-targets_room c = omega (arith, names-fit c.args.h
 
 pub returns-then-counts_are_bad : goal.returns-then-counts_are_bad
 returns-then-counts_are_bad c = record {
-  result = past_8 _ _ c.args.room c.args.headed.now.passes c.facts_are_bad.ensures.result c.if-facts_are_bad.false c.in_ok-trees.ensures.row c.in_ok-node_rows.ensures.rows
+  result = past_8 _ _ c.args.room c.args.headed.now.passes c.facts_are_bad-bad.ensures.result c.if-bad.false (rw c.in_ok-statements.was at c.statement_row-statements.ensures.row) c.in_ok-node_rows.ensures.rows
       (passed 9 c.names_are_declared_twice.ensures.result c.if-names_are_declared_twice.false
       (refused 10 _ c.counts_are_bad.ensures.result c.if-counts_are_bad.true));
 }
 
-pub returns-then-room_is_short : goal.returns-then-room_is_short
-returns-then-room_is_short c = record {
-  result = past_8 _ _ c.args.room c.args.headed.now.passes c.facts_are_bad.ensures.result c.if-facts_are_bad.false c.in_ok-trees.ensures.row c.in_ok-node_rows.ensures.rows
+pub returns-then-short : goal.returns-then-short
+returns-then-short c = record {
+  result = past_8 _ _ c.args.room c.args.headed.now.passes c.facts_are_bad-bad.ensures.result c.if-bad.false (rw c.in_ok-statements.was at c.statement_row-statements.ensures.row) c.in_ok-node_rows.ensures.rows
       (passed 9 c.names_are_declared_twice.ensures.result c.if-names_are_declared_twice.false
       (passed 10 c.counts_are_bad.ensures.result c.if-counts_are_bad.false
-      (refused 11 _ c.room_is_short.ensures.result c.if-room_is_short.true)));
+      (refused 11 _ c.room_is_short-short.ensures.result c.if-short.true)));
 }
 
 pub returns : goal.returns
 returns c = record {
-  result = past_8 _ _ c.args.room c.args.headed.now.passes c.facts_are_bad.ensures.result c.if-facts_are_bad.false c.in_ok-trees.ensures.row c.in_ok-node_rows.ensures.rows
+  result = past_8 _ _ c.args.room c.args.headed.now.passes c.facts_are_bad-bad.ensures.result c.if-bad.false (rw c.in_ok-statements.was at c.statement_row-statements.ensures.row) c.in_ok-node_rows.ensures.rows
       (passed 9 c.names_are_declared_twice.ensures.result c.if-names_are_declared_twice.false
       (passed 10 c.counts_are_bad.ensures.result c.if-counts_are_bad.false
-      (passed 11 c.room_is_short.ensures.result c.if-room_is_short.false refl)));
+      (passed 11 c.room_is_short-short.ensures.result c.if-short.false refl)));
 }

@@ -5,16 +5,13 @@ use Rattle.records_refusal.proofs.Judged.{initializers-low, expressions-low, sta
 use Rattle.records_refusal.proofs.Rows.{refused, passed}
 use Rattle.records_refusal.proofs.file_rows.statement_row.Goals as goal
 
-pub overflow_add-result : goal.overflow_add-result
-overflow_add-result c = omega (arith, initializers-low _ _ _ _ _ c.declarator_totals-d.ensures.initializers, expressions-low _ _ _ _ _ c.statement_totals-s.ensures.expressions)
+pub overflow_add-trees : goal.overflow_add-trees
+overflow_add-trees c = omega (arith, initializers-low _ _ _ _ _ c.declarator_totals-d.ensures.initializers, expressions-low _ _ _ _ _ c.statement_totals-s.ensures.expressions)
 
 pub returns-then-d-s-clause-row : goal.returns-then-d-s-clause-row
 returns-then-d-s-clause-row c =
     passed 6 (statements-judged c.args.file.now.bytes.now c.args.file.now.header c.args.file.now.whole.0 c.declarators-declarators.ensures.count c.declarators-declarators.ensures.records c.statements.ensures.records c.declarator_totals-d.ensures.good c.statement_totals-s.ensures.good c.statement_totals-s.ensures.declarators)
     (ap not c.if-d-s.true) refl
-
-pub returns-then-d-s-clause-trees : goal.returns-then-d-s-clause-trees
-returns-then-d-s-clause-trees c = rw (c.declarator_totals-d.ensures.initializers, c.statement_totals-s.ensures.expressions, c.declarators-declarators.ensures.records, c.statements.ensures.records)
 
 pub returns-else-d-s-clause-row : goal.returns-else-d-s-clause-row
 returns-else-d-s-clause-row c =
